@@ -1,0 +1,10 @@
+pub mod Booleans
+pub mod Tabulated
+pub mod Field
+pub mod Digits
+pub mod ExactField
+pub mod MaskedField
+pub mod PrefixField
+pub mod Matches
+pub mod Orders
+pub mod Entries

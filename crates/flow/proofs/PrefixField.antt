@@ -1,0 +1,135 @@
+-- A prefix is a field: its masks are nested, so of two prefixes that overlap the longer lies within the other. And what the
+-- masks stand for: the leading bits of an address. Assumes nothing.
+use mathlib.Core.Path.{_≡_, refl, sym, ap, ap₂, _∙_, subst}
+use mathlib.Core.Logic.{_↔_}
+use mathlib.Core.Bool.{Bool, true, false, _&&_, cond}
+use Prim.Native.Nat.{ℕ, _+_, _*_, _/_, _%_, _-_, _^_, _≤_, _<_, min}
+use native.Mathlib.Omega.{arith}
+use lib.Dec.{eqb, leb}
+use lib.Pow.{pow-pos, pow-mono, pow-lt, pow-sub-lt, high-ones, high, shr-mod, shl-shr, split as pow-split}
+use lib.Bits.{bitAnd, and-high, and-comm}
+use borrow.Author.Tests.{eq-eqb, ne-eqb, eqb-true, leb-true, leb-false}
+use Rattle.flow.specs.Types.{Prefix}
+use Rattle.flow.specs.Matches.{maskedFits, maskedMeet, maskOf, maskedOf, prefixFits, prefixOverlaps, prefixWithin, prefixMeet, prefixClear, PrefixInRange}
+use Rattle.flow.proofs.Booleans.{split, both-ways, and-intro, and-absorb, and-absorb-right}
+use Rattle.flow.proofs.Field.{IsField, along}
+use Rattle.flow.proofs.MaskedField.{MaskedInRange, masked-field}
+
+-- the mask of length l leaves the bits above the 32 - l low ones
+mask-is : (l : ℕ) → maskOf l ≡ 2 ^ ((32 - (32 - l)) + (32 - l)) - 2 ^ (32 - l)
+unfolding maskOf
+mask-is l = let e : 32 ≡ (32 - (32 - l)) + (32 - l) = omega arith in ap (λ (n : ℕ). 2 ^ n - 2 ^ (32 - l)) e
+
+pub leaves : (a l : ℕ) → a < 2 ^ 32 → bitAnd a (maskOf l) ≡ a / 2 ^ (32 - l) * 2 ^ (32 - l)
+leaves a l h =
+    let s : ℕ = 32 - l in
+    let e : 32 ≡ (32 - s) + s = omega arith in
+    let k : a < 2 ^ ((32 - s) + s) = subst (λ (n : ℕ). a < 2 ^ n) e h in
+    ap (bitAnd a) (mask-is l) ∙ and-high a (32 - s) s ∙ ap (λ q. q * 2 ^ s) (shr-mod (32 - s) s k)
+
+mask-lt : (l : ℕ) → maskOf l < 2 ^ 32
+unfolding maskOf
+mask-lt l = pow-sub-lt 32 (pow-pos (32 - l))
+
+-- a shorter prefix's mask is a part of a longer one's
+pub nested : (k l : ℕ) → l ≤ k → bitAnd (maskOf k) (maskOf l) ≡ maskOf l
+unfolding maskOf
+nested k l h =
+    let s : ℕ = 32 - l in
+    let t : ℕ = 32 - k in
+    let j : ℕ = 32 - s in
+    let a : 2 ^ t ≤ 2 ^ s = pow-mono {i = t} {j = s} (omega arith) in
+    let b : 0 < 2 ^ t = pow-pos t in
+    let d : 2 ^ s ≤ 2 ^ 32 = pow-mono {i = s} {j = 32} (omega arith) in
+    let f : 2 ^ 32 - 2 ^ s ≡ (2 ^ j - 1) * 2 ^ s = mask-is l ∙ high-ones j s in
+    let g : maskOf k ≡ (2 ^ j - 1) * 2 ^ s + (2 ^ s - 2 ^ t) = omega arith in
+    leaves (maskOf k) l (mask-lt k)
+    ∙ ap (λ q. q / 2 ^ s * 2 ^ s) g
+    ∙ ap (λ q. q * 2 ^ s) (high (2 ^ j - 1) s {lo = 2 ^ s - 2 ^ t} (omega arith))
+    ∙ sym f
+
+in-range : (p : Prefix) → PrefixInRange p → MaskedInRange 32 (maskedOf p)
+in-range p h = record { value = h .value; mask = mask-lt (p .length); clear = h .clear }
+
+-- of two prefixes that overlap, the longer lies within the other
+longer-within : (p q : Prefix) → q .length ≤ p .length → prefixOverlaps p q ≡ true → prefixWithin p q ≡ true
+longer-within p q h e =
+    let n = nested (p .length) (q .length) h in
+    and-intro (eq-eqb (bitAnd (maskOf (p .length)) (maskOf (q .length))) (maskOf (q .length)) n) (rw n at e)
+
+overlap-turned : (p q : Prefix) → prefixOverlaps p q ≡ true → prefixOverlaps q p ≡ true
+overlap-turned p q e =
+    let m = and-comm (maskOf (q .length)) (maskOf (p .length)) in
+    rw m (eq-eqb _ _ (sym (eqb-true (bitAnd (p .value) (bitAnd (maskOf (p .length)) (maskOf (q .length)))) (bitAnd (q .value) (bitAnd (maskOf (p .length)) (maskOf (q .length)))) e)))
+
+meet-is : (p q : Prefix) → prefixOverlaps p q ≡ true → (x : ℕ) → prefixFits (prefixMeet p q) x ≡ maskedFits (maskedMeet (maskedOf p) (maskedOf q)) x
+meet-is p q e x = split (leb (q .length) (p .length))
+    (λ u. rw u (and-absorb (prefixFits p x) (prefixFits q x) (masked-field 32 .within-fits (maskedOf p) (maskedOf q) (longer-within p q (leb-true (q .length) (p .length) u) e) x)
+    ∙ sym (masked-field 32 .meet-fits (maskedOf p) (maskedOf q) e x)))
+    (λ u. let l = leb-false (q .length) (p .length) u in
+    rw u (and-absorb-right (prefixFits p x) (prefixFits q x) (masked-field 32 .within-fits (maskedOf q) (maskedOf p) (longer-within q p (omega arith) (overlap-turned p q e)) x)
+    ∙ sym (masked-field 32 .meet-fits (maskedOf p) (maskedOf q) e x)))
+
+pub prefix-field : IsField PrefixInRange (λ x. x < 2 ^ 32) prefixFits prefixWithin prefixOverlaps prefixMeet (λ p. p .value)
+prefix-field = along (masked-field 32) PrefixInRange (λ x. x < 2 ^ 32) maskedOf (λ x. x) (λ x. x) (λ x. refl) in-range (λ x h. h) prefixMeet meet-is (λ p q h k. go p q h k (leb (q .length) (p .length)))
+  where
+    go : (p q : Prefix) → PrefixInRange p → PrefixInRange q → (b : Bool) → PrefixInRange (cond b p q)
+    go p q h k true = h
+    go p q h k false = k
+
+-- ---- what the masks stand for: the leading bits of an address
+same-block : (a b s : ℕ) → eqb (a * 2 ^ s) (b * 2 ^ s) ≡ eqb a b
+same-block a b s = both-ways (eqb (a * 2 ^ s) (b * 2 ^ s)) (eqb a b)
+    (λ e. eq-eqb a b (sym (shl-shr a s) ∙ ap (λ n. n / 2 ^ s) (eqb-true (a * 2 ^ s) (b * 2 ^ s) e) ∙ shl-shr b s))
+    (λ e. eq-eqb (a * 2 ^ s) (b * 2 ^ s) (ap (λ n. n * 2 ^ s) (eqb-true a b e)))
+
+leading : (v w l : ℕ) → v < 2 ^ 32 → w < 2 ^ 32 → eqb (bitAnd v (maskOf l)) (bitAnd w (maskOf l)) ≡ eqb (v / 2 ^ (32 - l)) (w / 2 ^ (32 - l))
+leading v w l h k = rw (leaves v l h, leaves w l k) (same-block (v / 2 ^ (32 - l)) (w / 2 ^ (32 - l)) (32 - l))
+
+-- an address fits a prefix if its leading bits, as many as the length says, are the prefix's
+pub prefix-fits-leading : (p : Prefix) (x : ℕ) → p .value < 2 ^ 32 → x < 2 ^ 32 → prefixFits p x ≡ eqb (x / 2 ^ (32 - p .length)) (p .value / 2 ^ (32 - p .length))
+prefix-fits-leading p x h k = leading x (p .value) (p .length) k h
+
+-- two overlap if the leading bits that both compare are the same
+pub prefix-overlaps-leading : (p q : Prefix) → p .value < 2 ^ 32 → q .value < 2 ^ 32
+    → prefixOverlaps p q ≡ eqb (p .value / 2 ^ (32 - min (p .length) (q .length))) (q .value / 2 ^ (32 - min (p .length) (q .length)))
+prefix-overlaps-leading p q h k = rw (both-masks (leb (q .length) (p .length)) refl) (leading (p .value) (q .value) (min (p .length) (q .length)) h k)
+  where
+    both-masks : (b : Bool) → leb (q .length) (p .length) ≡ b → bitAnd (maskOf (p .length)) (maskOf (q .length)) ≡ maskOf (min (p .length) (q .length))
+    both-masks true e =
+        let l = leb-true (q .length) (p .length) e in
+        let m : q .length ≡ min (p .length) (q .length) = omega arith in
+        nested (p .length) (q .length) l ∙ ap maskOf m
+    both-masks false e =
+        let l = leb-false (q .length) (p .length) e in
+        let m : p .length ≡ min (p .length) (q .length) = omega arith in
+        and-comm (maskOf (p .length)) (maskOf (q .length)) ∙ nested (q .length) (p .length) (omega arith) ∙ ap maskOf m
+
+masks-differ : (k l : ℕ) → k < l → l ≤ 32 → maskOf k ≡ maskOf l → ⊥
+unfolding maskOf
+masks-differ k l h i e =
+    let a : 2 ^ (32 - l) < 2 ^ (32 - k) = pow-lt {i = 32 - l} {j = 32 - k} (omega arith) in
+    let b : 2 ^ (32 - k) ≤ 2 ^ 32 = pow-mono {i = 32 - k} {j = 32} (omega arith) in
+    omega arith
+
+-- one lies within another if it is at least as long and has the other's leading bits
+pub prefix-within-leading : (p q : Prefix) → p .value < 2 ^ 32 → q .value < 2 ^ 32 → q .length ≤ 32
+    → prefixWithin p q ≡ leb (q .length) (p .length) && eqb (p .value / 2 ^ (32 - q .length)) (q .value / 2 ^ (32 - q .length))
+prefix-within-leading p q h k l = ap₂ _&&_ (masks (leb (q .length) (p .length)) refl) (leading (p .value) (q .value) (q .length) h k)
+  where
+    masks : (b : Bool) → leb (q .length) (p .length) ≡ b → eqb (bitAnd (maskOf (p .length)) (maskOf (q .length))) (maskOf (q .length)) ≡ leb (q .length) (p .length)
+    masks true e = eq-eqb _ _ (nested (p .length) (q .length) (leb-true (q .length) (p .length) e)) ∙ sym e
+    masks false e =
+        let i = leb-false (q .length) (p .length) e in
+        let f : bitAnd (maskOf (p .length)) (maskOf (q .length)) ≡ maskOf (p .length) = and-comm (maskOf (p .length)) (maskOf (q .length)) ∙ nested (q .length) (p .length) (omega arith) in
+        ne-eqb _ _ (λ g. masks-differ (p .length) (q .length) i l (sym f ∙ g)) ∙ sym e
+
+-- no bit stands past the length
+pub prefix-clear-means : (p : Prefix) → p .value < 2 ^ 32 → (prefixClear p ≡ true) ↔ (p .value % 2 ^ (32 - p .length) ≡ 0)
+prefix-clear-means p h = (
+  λ e. let f = eqb-true (bitAnd v (maskOf (p .length))) v e in let g = leaves v (p .length) h in let d = pow-split v (32 - p .length) in omega arith,
+  λ e. let g = leaves v (p .length) h in let d = pow-split v (32 - p .length) in eq-eqb (bitAnd v (maskOf (p .length))) v (omega arith),
+)
+  where
+    v : ℕ
+    v = p .value

@@ -1,0 +1,11 @@
+use Rattle.flow.specs.Entries.{sameAction}
+use borrow.Author.Needs.{needs}
+use Rattle.flow.proofs.action.Action.same.Statement.{statement}
+use Rattle.flow.proofs.action.Action.same.Tie as tie
+
+returns : tie.Need-returns
+unfolding sameAction
+returns c = cc
+
+pub same-spec : {M : Type 1} → statement M
+same-spec = tie.close (tie.spec (λ c κs. search needs) (λ c κs. search needs) returns)

@@ -1,0 +1,9 @@
+use borrow.Author.Needs.{needs}
+use Rattle.flow.proofs.exact.Exact.order.Statement.{statement}
+use Rattle.flow.proofs.exact.Exact.order.Tie as tie
+
+returns : tie.Need-returns
+returns c = cc
+
+pub order-spec : {M : Type 1} → statement M
+order-spec = tie.close (tie.spec (λ c κs. search needs) (λ c κs. search needs) (λ c κs. search needs) returns)

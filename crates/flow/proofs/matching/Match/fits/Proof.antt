@@ -1,0 +1,14 @@
+use Rattle.flow.specs.Matches.{fits}
+use borrow.Author.Needs.{needs}
+use Rattle.flow.proofs.matching.Match.fits.Statement.{statement}
+use Rattle.flow.proofs.matching.Match.fits.Tie as tie
+
+returns : tie.Need-returns
+unfolding fits
+returns c = cc
+
+pub fits-spec : {M : Type 1} → statement M
+fits-spec =
+    tie.close
+    (tie.spec (λ c κs. search needs) (λ c κs. search needs) (λ c κs. search needs) (λ c κs. search needs) (λ c κs. search needs) (λ c κs. search needs)
+    returns)

@@ -1,0 +1,11 @@
+use Rattle.flow.specs.Matches.{clear}
+use borrow.Author.Needs.{needs}
+use Rattle.flow.proofs.matching.Match.is_clear.Statement.{statement}
+use Rattle.flow.proofs.matching.Match.is_clear.Tie as tie
+
+returns : tie.Need-returns
+unfolding clear
+returns c = cc
+
+pub is-clear-spec : {M : Type 1} → statement M
+is-clear-spec = tie.close (tie.spec (λ c κs. search needs) (λ c κs. search needs) returns)

@@ -1,0 +1,14 @@
+use Rattle.flow.specs.Matches.{within}
+use borrow.Author.Needs.{needs}
+use Rattle.flow.proofs.matching.Match.within.Statement.{statement}
+use Rattle.flow.proofs.matching.Match.within.Tie as tie
+
+returns : tie.Need-returns
+unfolding within
+returns c = cc
+
+pub within-spec : {M : Type 1} → statement M
+within-spec =
+    tie.close
+    (tie.spec (λ c κs. search needs) (λ c κs. search needs) (λ c κs. search needs) (λ c κs. search needs) (λ c κs. search needs) (λ c κs. search needs)
+    returns)

@@ -1,0 +1,80 @@
+-- Document 01, "Flow table": keys, actions, entries, and the order of a table. That it is a strict total order of the keys is
+-- proved in proofs/Entries.antt.
+use mathlib.Core.Bool.{Bool, true, false, cond}
+use mathlib.Core.List.{List, [], _∷_}
+use Prim.Native.Nat.{ℕ, _+_, _<_}
+use lib.Dec.{eqb, ltb}
+use Rattle.flow.specs.Types.{Exact, Any, Is, Match, Action, Drop, Controller, Port, Key, Entry, Ordering, Less, Equal, Greater}
+use Rattle.flow.specs.Matches.{MatchInRange}
+
+-- the order of two numbers
+unfoldable pub orderOf : ℕ → ℕ → Ordering
+orderOf a b = cond (ltb a b) Less (cond (ltb b a) Greater Equal)
+
+-- a comparison, and where that finds no difference another
+unfoldable pub thenBy : Ordering → Ordering → Ordering
+thenBy Less o = Less
+thenBy Equal o = o
+thenBy Greater o = Greater
+
+-- lists of numbers: the first difference decides, and a list's beginning stands before it
+abbrev pub lexical : List ℕ → List ℕ → Ordering
+lexical [] [] = Equal
+lexical [] (y ∷ ys) = Less
+lexical (x ∷ xs) [] = Greater
+lexical (x ∷ xs) (y ∷ ys) = thenBy (orderOf x y) (lexical xs ys)
+
+-- `*` before numbers
+abbrev pub exactRank : Exact → ℕ
+exactRank Any = 0
+exactRank (Is a) = a + 1
+
+-- what table order compares of a match, in its order
+unfoldable pub rank : Match → List ℕ
+rank m =
+    exactRank (m .port)
+    ∷ m .src .value ∷ m .src .length
+    ∷ m .dst .value ∷ m .dst .length
+    ∷ exactRank (m .proto)
+    ∷ exactRank (m .sport)
+    ∷ exactRank (m .dport)
+    ∷ []
+
+unfoldable pub matchOrder : Match → Match → Ordering
+matchOrder m n = lexical (rank m) (rank n)
+
+-- table order: priority falling, then the match rising
+unfoldable pub keyOrder : Key → Key → Ordering
+keyOrder j k = thenBy (orderOf (k .priority) (j .priority)) (matchOrder (j .pattern) (k .pattern))
+
+abbrev pub isEqual : Ordering → Bool
+isEqual Less = false
+isEqual Equal = true
+isEqual Greater = false
+
+-- the same key
+unfoldable pub sameKey : Key → Key → Bool
+sameKey j k = isEqual (keyOrder j k)
+
+-- a number for each action; the same action
+abbrev pub actionCode : Action → ℕ
+actionCode Drop = 0
+actionCode Controller = 1
+actionCode (Port n) = n + 2
+
+unfoldable pub sameAction : Action → Action → Bool
+sameAction a b = eqb (actionCode a) (actionCode b)
+
+-- ranges: priority and port 0 to 65535
+pub record KeyInRange (k : Key) : Type 0 where
+  pub priority : k .priority < 65536
+  pub pattern : MatchInRange (k .pattern)
+
+abbrev pub ActionInRange : Action → Type 0
+ActionInRange Drop = Unit {0}
+ActionInRange Controller = Unit {0}
+ActionInRange (Port n) = n < 65536
+
+pub record EntryInRange (e : Entry) : Type 0 where
+  pub key : KeyInRange (e .key)
+  pub action : ActionInRange (e .action)

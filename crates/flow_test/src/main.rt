@@ -1,0 +1,415 @@
+// Vectors for matches and table order: each pair of the matches below, each packet against each match, and document 01's
+// examples of addresses. What must come out is in the file `stdout`.
+use flow::Action;
+use flow::Exact;
+use flow::Key;
+use flow::Match;
+use flow::Ordering;
+use flow::Packet;
+use flow::Prefix;
+use libc::STDOUT_FILENO;
+ghost use Prim.Native.Nat.{_<_};
+
+// A match a column; 65536 stands for `*`.
+const PORT: [u32; 26] = [
+    65536,
+    0,
+    1,
+    65535,
+    65536,
+    65536,
+    65536,
+    65536,
+    65536,
+    65536,
+    65536,
+    65536,
+    65536,
+    65536,
+    65536,
+    65536,
+    65536,
+    65536,
+    65536,
+    65536,
+    65536,
+    65536,
+    65536,
+    1,
+    1,
+    65536,
+];
+
+const SRC_ADDR: [u32; 26] = [
+    0x00000000,
+    0x00000000,
+    0x00000000,
+    0x00000000,
+    0x80000000,
+    0x00000000,
+    0x0a000000,
+    0x0a000002,
+    0x0a000002,
+    0x0a000003,
+    0x00000000,
+    0x00000000,
+    0x00000000,
+    0x00000000,
+    0x00000000,
+    0x00000000,
+    0x00000000,
+    0x00000000,
+    0x00000000,
+    0x00000000,
+    0x00000000,
+    0x00000000,
+    0x00000000,
+    0x0a000002,
+    0x00000000,
+    0x0a000000,
+];
+
+const SRC_LENGTH: [u8; 26] = [
+    0,
+    0,
+    0,
+    0,
+    1,
+    1,
+    8,
+    31,
+    32,
+    32,
+    32,
+    0,
+    0,
+    0,
+    0,
+    0,
+    0,
+    0,
+    0,
+    0,
+    0,
+    0,
+    0,
+    31,
+    0,
+    8,
+];
+
+const DST_ADDR: [u32; 26] = [
+    0x00000000,
+    0x00000000,
+    0x00000000,
+    0x00000000,
+    0x00000000,
+    0x00000000,
+    0x00000000,
+    0x00000000,
+    0x00000000,
+    0x00000000,
+    0x00000000,
+    0x80000000,
+    0x0a000000,
+    0x0a010000,
+    0x0a010002,
+    0x0a010003,
+    0x00000000,
+    0x00000000,
+    0x00000000,
+    0x00000000,
+    0x00000000,
+    0x00000000,
+    0x00000000,
+    0x0a010003,
+    0x0a010000,
+    0x00000000,
+];
+
+const DST_LENGTH: [u8; 26] = [
+    0,
+    0,
+    0,
+    0,
+    0,
+    0,
+    0,
+    0,
+    0,
+    0,
+    0,
+    1,
+    8,
+    16,
+    31,
+    32,
+    0,
+    0,
+    0,
+    0,
+    0,
+    0,
+    0,
+    32,
+    16,
+    0,
+];
+
+const PROTO: [u32; 26] = [
+    65536,
+    65536,
+    65536,
+    65536,
+    65536,
+    65536,
+    65536,
+    65536,
+    65536,
+    65536,
+    65536,
+    65536,
+    65536,
+    65536,
+    65536,
+    65536,
+    0,
+    6,
+    255,
+    65536,
+    65536,
+    65536,
+    65536,
+    6,
+    6,
+    65536,
+];
+
+const SPORT: [u32; 26] = [
+    65536,
+    65536,
+    65536,
+    65536,
+    65536,
+    65536,
+    65536,
+    65536,
+    65536,
+    65536,
+    65536,
+    65536,
+    65536,
+    65536,
+    65536,
+    65536,
+    65536,
+    65536,
+    65536,
+    0,
+    65535,
+    65536,
+    65536,
+    65535,
+    65536,
+    65536,
+];
+
+const DPORT: [u32; 26] = [
+    65536,
+    65536,
+    65536,
+    65536,
+    65536,
+    65536,
+    65536,
+    65536,
+    65536,
+    65536,
+    65536,
+    65536,
+    65536,
+    65536,
+    65536,
+    65536,
+    65536,
+    65536,
+    65536,
+    65536,
+    65536,
+    80,
+    81,
+    80,
+    65536,
+    80,
+];
+
+fn exact(n: u32) -> Exact {
+    if n < 65536 {
+        return Exact::Is(n as u16);
+    }
+    Exact::Any
+}
+
+fn sample(i: usize) -> Match
+    requires { ⌜ i < 26 ⌝ }
+{
+    Match {
+        port: exact(PORT[i]),
+        src: Prefix {
+            value: SRC_ADDR[i],
+            length: SRC_LENGTH[i],
+        },
+        dst: Prefix {
+            value: DST_ADDR[i],
+            length: DST_LENGTH[i],
+        },
+        proto: exact(PROTO[i]),
+        sport: exact(SPORT[i]),
+        dport: exact(DPORT[i]),
+    }
+}
+
+fn say(text: &[u8]) {
+    io::write_all(STDOUT_FILENO, text);
+}
+
+fn end_line() {
+    say(b"\n");
+}
+
+fn say_if(ok: bool, yes: &[u8], no: &[u8]) {
+    if ok {
+        say(yes);
+    } else {
+        say(no);
+    }
+}
+
+fn say_order(o: Ordering) {
+    match o {
+        Ordering::Less => say(b"<"),
+        Ordering::Equal => say(b"="),
+        Ordering::Greater => say(b">"),
+    }
+}
+
+// Overlap, within and order of two matches: `ow<`, with `.` for no.
+fn pair(m: Match, n: Match) {
+    say_if(m.overlaps(n), b" o", b" .");
+    say_if(m.within(n), b"w", b".");
+    say_order(m.order(n));
+}
+
+fn row(i: usize)
+    requires { ⌜ i < 26 ⌝ }
+{
+    let m = sample(i);
+    for j in 0..26 {
+        pair(m, sample(j));
+    }
+    end_line();
+}
+
+fn cell(m: Match, p: Packet) {
+    say_if(m.fits(p), b"x", b".");
+}
+
+// Which of the matches a packet fits.
+fn packet(p: Packet) {
+    for i in 0..26 {
+        let m = sample(i);
+        cell(m, p);
+    }
+    end_line();
+}
+
+fn address(name: &[u8], value: u32, length: u8) {
+    let p = Prefix { value, length };
+    say(name);
+    say_if(p.is_clear(), b" passes\n", b" has a bit past its length\n");
+}
+
+// Two keys by priority and match.
+fn keys(p: u16, i: usize, q: u16, j: usize)
+    requires { ⌜ (i < 26) × (j < 26) ⌝ }
+{
+    let k = Key {
+        priority: p,
+        pattern: sample(i),
+    };
+    let l = Key {
+        priority: q,
+        pattern: sample(j),
+    };
+    say_order(k.order(l));
+    say_if(k.same(l), b" same\n", b" differ\n");
+}
+
+fn actions(a: Action, b: Action) {
+    say_if(a.same(b), b"same\n", b"differ\n");
+}
+
+fn rows() {
+    for i in 0..26 {
+        row(i);
+    }
+}
+
+fn main() {
+    address(b"0a000002/31", 0x0a000002, 31);
+    address(b"0a000001/31", 0x0a000001, 31);
+    address(b"00000000/0", 0, 0);
+    address(b"80000000/0", 0x80000000, 0);
+    address(b"80000000/1", 0x80000000, 1);
+    address(b"40000000/1", 0x40000000, 1);
+    address(b"ffffffff/32", 0xffffffff, 32);
+    rows();
+    packet(Packet {
+        port: 1,
+        src: 0x0a000003,
+        dst: 0x0a010003,
+        proto: 6,
+        sport: 65535,
+        dport: 80,
+    });
+    packet(Packet {
+        port: 0,
+        src: 0x00000000,
+        dst: 0x00000000,
+        proto: 0,
+        sport: 0,
+        dport: 0,
+    });
+    packet(Packet {
+        port: 65535,
+        src: 0xffffffff,
+        dst: 0xffffffff,
+        proto: 255,
+        sport: 65535,
+        dport: 65535,
+    });
+    packet(Packet {
+        port: 2,
+        src: 0x0a000002,
+        dst: 0x0a01ffff,
+        proto: 17,
+        sport: 1,
+        dport: 81,
+    });
+    keys(10, 0, 5, 0);
+    keys(5, 0, 10, 0);
+    keys(5, 0, 5, 0);
+    keys(5, 1, 5, 0);
+    keys(5, 0, 5, 1);
+    keys(10, 3, 5, 0);
+    keys(0, 2, 65535, 2);
+    keys(7, 13, 7, 13);
+    actions(Action::Drop, Action::Drop);
+    actions(Action::Drop, Action::Controller);
+    actions(Action::Controller, Action::Controller);
+    actions(Action::Controller, Action::Port(0));
+    actions(Action::Port(0), Action::Drop);
+    actions(Action::Port(1), Action::Port(1));
+    actions(Action::Port(1), Action::Port(2));
+    actions(Action::Port(65535), Action::Port(65535));
+}

@@ -6,5 +6,6 @@ pub mod ExactField
 pub mod MaskedField
 pub mod PrefixField
 pub mod Matches
+pub mod Leading
 pub mod Orders
 pub mod Entries

@@ -1,0 +1,5 @@
+pub mod Sound
+pub mod Exact
+pub mod Theorems
+pub mod Marked
+pub mod Arms

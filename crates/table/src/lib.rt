@@ -1,0 +1,8 @@
+// What the events of a trace do to a flow table, and what they answer.
+pub mod keys;
+pub mod operation;
+
+pub use keys::clash;
+pub use operation::Answer;
+pub use operation::Operation;
+pub use operation::TableOperation;

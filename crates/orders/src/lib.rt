@@ -1,0 +1,1 @@
+// What an order of events does to the tables of all switches. Definitions and theorems only.

@@ -1,0 +1,45 @@
+-- Laws of tests and of readers.
+use Prim.Native.Nat.{ℕ, _+_}
+use mathlib.Core.Bool.{Bool, true, false, cond}
+use mathlib.Core.List.{List, _++_}
+use mathlib.Core.Option.{Option, none, some, Option·some-injective, Option·none-ne-some}
+use mathlib.Core.Path.{_≡_, refl, sym, _∙_, ap}
+use native.Mathlib.Nat.{add-zero}
+use lib.ListN.{length, getD, drop}
+use lib.Seq.{drop-append-seam, drop-drop, getD-drop}
+use Rattle.digits.specs.Reading.{onRead}
+
+-- nothing is no value
+pub nothing : {A P : Type 0} {a : A} → none ≡ some a → P
+nothing {a = a} e = absurd (Option·none-ne-some a e)
+
+-- two readings of one thing have one value and one place
+module _ {A : Type 0} {x y : A × ℕ} (e : some x ≡ some y) where
+  pub same-value : x .0 ≡ y .0
+  same-value = ap (λ (p : A × ℕ). p .0) (Option·some-injective x y e)
+
+  pub same-place : x .1 ≡ y .1
+  same-place = ap (λ (p : A × ℕ). p .1) (Option·some-injective x y e)
+
+-- a result came by one way of a test
+pub on-cond : {A P : Type 0} (t : Bool) {a b r : A} → (t ≡ true → a ≡ r → P) → (t ≡ false → b ≡ r → P) → cond t a b ≡ r → P
+on-cond true f g e = f refl e
+on-cond false f g e = g refl e
+
+-- a value that was read by way of another came by that other and the place after it
+pub on-read : {A B P : Type 0} (r : Option (A × ℕ)) {f : A → ℕ → Option (B × ℕ)} {x : B × ℕ} → ((a : A) (n : ℕ) → r ≡ some (a, n) → f a n ≡ some x → P)
+    → onRead r f ≡ some x → P
+on-read none g e = nothing e
+on-read (some r) g e = g (r .0) (r .1) refl e
+
+-- what stands behind a text that stands at a place
+pub behind : (w rest s : List ℕ) (at : ℕ) → drop at s ≡ w ++ rest → drop (at + length w) s ≡ rest
+behind w rest s at h = rw (← drop-drop, h) (drop-append-seam w rest)
+
+-- the byte at a place is the first from there on
+pub here : (s : List ℕ) (at : ℕ) → getD s at 0 ≡ getD (drop at s) 0 0
+here s at = sym (getD-drop at s 0 0 ∙ rw add-zero)
+
+-- what a reader's answer says, where the answer is known
+pub seen : {R X : Type 0} (view : R → X) {r y : R} {x : X} → view r ≡ x → r ≡ y → x ≡ view y
+seen view p q = sym p ∙ ap view q

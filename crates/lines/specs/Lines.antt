@@ -1,0 +1,35 @@
+-- A text as lines, each ended by LF, byte 10.
+use Prim.Native.Nat.{ℕ, _+_, _-_}
+use mathlib.Core.Bool.{Bool, cond, _||_}
+use mathlib.Core.List.{List, [], _∷_, _++_}
+use lib.Dec.{eqb}
+use lib.ListN.{length, getD}
+
+-- a byte more at the front of the first line
+unfoldable pub inFirst : ℕ → List (List ℕ) → List (List ℕ)
+inFirst b [] = (b ∷ []) ∷ []
+inFirst b (l ∷ ls) = (b ∷ l) ∷ ls
+
+-- the lines, without the LF that ends each; a last line may lack its LF
+unfoldable pub lines : List ℕ → List (List ℕ)
+lines [] = []
+lines (b ∷ s) = cond (eqb b 10) ([] ∷ lines s) (inFirst b (lines s))
+
+-- the text of lines, each followed by LF
+unfoldable pub unlines : List (List ℕ) → List ℕ
+unlines [] = []
+unlines (l ∷ ls) = l ++ 10 ∷ unlines ls
+
+-- how many bytes stand before the first LF, all of them where there is none
+unfoldable pub lineLength : List ℕ → ℕ
+lineLength [] = 0
+lineLength (b ∷ s) = cond (eqb b 10) 0 (lineLength s + 1)
+
+-- how many LF there are
+unfoldable pub newlines : List ℕ → ℕ
+newlines [] = 0
+newlines (b ∷ s) = cond (eqb b 10) (newlines s + 1) (newlines s)
+
+-- the text is empty, or its last byte is LF
+unfoldable pub endsWithLf : List ℕ → Bool
+endsWithLf s = eqb (length s) 0 || eqb (getD s (length s - 1) 0) 10

@@ -1,0 +1,95 @@
+use mathlib.Core.Path.{refl}
+use Rattle.refusals.specs.Refusals.{numberOf}
+use Rattle.refusals.proofs.Arms.{in-arm}
+use borrow.Author.Needs.{needs}
+use Rattle.refusals.proofs.refusal.Refusal.number.Statement.{statement}
+use Rattle.refusals.proofs.refusal.Refusal.number.Tie as tie
+
+enum-told : tie.Need-enum-told
+enum-told c = search needs
+
+returns : tie.Need-returns
+returns c = in-arm numberOf (c .enum-told .given .1) refl
+
+returns-2 : tie.Need-returns-2
+returns-2 c = in-arm numberOf (c .enum-told2 .given .1) refl
+
+returns-3 : tie.Need-returns-3
+returns-3 c = in-arm numberOf (c .enum-told3 .given .1) refl
+
+returns-4 : tie.Need-returns-4
+returns-4 c = in-arm numberOf (c .enum-told4 .given .1) refl
+
+returns-5 : tie.Need-returns-5
+returns-5 c = in-arm numberOf (c .enum-told5 .given .1) refl
+
+returns-6 : tie.Need-returns-6
+returns-6 c = in-arm numberOf (c .enum-told6 .given .1) refl
+
+returns-7 : tie.Need-returns-7
+returns-7 c = in-arm numberOf (c .enum-told7 .given .1) refl
+
+returns-8 : tie.Need-returns-8
+returns-8 c = in-arm numberOf (c .enum-told8 .given .1) refl
+
+returns-9 : tie.Need-returns-9
+returns-9 c = in-arm numberOf (c .enum-told9 .given .1) refl
+
+returns-10 : tie.Need-returns-10
+returns-10 c = in-arm numberOf (c .enum-told10 .given .1) refl
+
+returns-11 : tie.Need-returns-11
+returns-11 c = in-arm numberOf (c .enum-told11 .given .1) refl
+
+returns-12 : tie.Need-returns-12
+returns-12 c = in-arm numberOf (c .enum-told12 .given .1) refl
+
+returns-13 : tie.Need-returns-13
+returns-13 c = in-arm numberOf (c .enum-told13 .given .1) refl
+
+returns-14 : tie.Need-returns-14
+returns-14 c = in-arm numberOf (c .enum-told14 .given .1) refl
+
+returns-15 : tie.Need-returns-15
+returns-15 c = in-arm numberOf (c .enum-told15 .given .1) refl
+
+returns-16 : tie.Need-returns-16
+returns-16 c = in-arm numberOf (c .enum-told16 .given .1) refl
+
+returns-17 : tie.Need-returns-17
+returns-17 c = in-arm numberOf (c .enum-told17 .given .1) refl
+
+returns-18 : tie.Need-returns-18
+returns-18 c = in-arm numberOf (c .enum-told18 .given .1) refl
+
+returns-19 : tie.Need-returns-19
+returns-19 c = in-arm numberOf (c .enum-told19 .given .1) refl
+
+returns-20 : tie.Need-returns-20
+returns-20 c = in-arm numberOf (c .enum-told20 .given .1) refl
+
+pub number-spec : {M : Type 1} → statement M
+number-spec =
+    tie.close
+    (tie.spec
+    enum-told (λ c. search needs) (λ c. search needs) (λ c. search needs) (λ c. search needs) (λ c. search needs) (λ c. search needs) (λ c. search needs) (λ c. search needs) (λ c. search needs) (λ c. search needs) (λ c. search needs) (λ c. search needs) (λ c. search needs) (λ c. search needs) (λ c. search needs) (λ c. search needs) (λ c. search needs) (λ c. search needs) (λ c. search needs)
+    returns
+    returns-2
+    returns-3
+    returns-4
+    returns-5
+    returns-6
+    returns-7
+    returns-8
+    returns-9
+    returns-10
+    returns-11
+    returns-12
+    returns-13
+    returns-14
+    returns-15
+    returns-16
+    returns-17
+    returns-18
+    returns-19
+    returns-20)

@@ -43,3 +43,7 @@ here s at = sym (getD-drop at s 0 0 ∙ rw add-zero)
 -- what a reader's answer says, where the answer is known
 pub seen : {R X : Type 0} (view : R → X) {r y : R} {x : X} → view r ≡ x → r ≡ y → x ≡ view y
 seen view p q = sym p ∙ ap view q
+
+-- what a test gave that a call made of a known value
+pub tested : {A B : Type 0} (test : A → B) {a b : A} {r v : B} → a ≡ b → r ≡ test a → r ≡ v → test b ≡ v
+tested test p q e = ap test (sym p) ∙ sym q ∙ e

@@ -1,0 +1,94 @@
+-- Happens-before is every chain of one or more steps (`before-iff`); a chain goes to a later line (`chain-later`); what happens
+-- before an event is the union of its direct predecessors and of what happens before them (`row-union`). Assumes nothing.
+use Prim.Native.Nat.{ℕ, zero, suc, _<_, _≤_}
+use native.Mathlib.Nat.{eq-or-lt-of-le, le-of-suc-le-suc, le-refl}
+use native.Mathlib.Omega.{arith}
+use mathlib.Core.Path.{_≡_, refl, sym, ap, subst, _∙_}
+use mathlib.Core.Logic.{_↔_, ⊎-elim}
+use mathlib.Core.Bool.{Bool, true, false, _&&_, _||_, false≢true, or-true}
+use mathlib.Core.List.{List}
+use lib.Dec.{eqb, ltb}
+use lib.ListN.{length}
+use borrow.Author.Tests.{eq-eqb, eqb-true, ltb-true}
+use Rattle.flow.proofs.Booleans.{split, and-left, and-right, and-intro, or-cases}
+use Rattle.events.specs.Events.{eventAt}
+use Rattle.events.specs.Precedence.{precedes}
+use Rattle.causality.specs.Types.{Event}
+use Rattle.causality.specs.Causality.{step, Chain, link, onward, anyBelow, reaches, before}
+
+-- two tests that agree below n
+any-same : (p q : ℕ → Bool) (n : ℕ) → ((k : ℕ) → k < n → p k ≡ q k) → anyBelow p n ≡ anyBelow q n
+any-same p q zero h = refl
+any-same p q (suc n) h = simp (any-same p q n (λ k l. h k (omega arith)), h n (omega arith))
+
+any-found : (p : ℕ → Bool) (n : ℕ) → anyBelow p n ≡ true → (k : ℕ) × (k < n) × (p k ≡ true)
+any-found p zero h = absurd (false≢true h)
+any-found p (suc n) h =
+    or-cases (anyBelow p n) (p n) h
+    (λ e. let r = any-found p n e in (r .0, omega (arith, r .1), r .2))
+    (λ e. (n, le-refl (suc n), e))
+
+any-at : (p : ℕ → Bool) (n k : ℕ) → k < n → p k ≡ true → anyBelow p n ≡ true
+any-at p zero k l h = absurd (omega arith)
+any-at p (suc n) k l h =
+    ⊎-elim
+    (λ e. rw (subst (λ (m : ℕ). p m ≡ true) e h) (or-true (anyBelow p n)))
+    (λ m. rw (any-at p n k m h) refl)
+    (eq-or-lt-of-le (le-of-suc-le-suc l))
+
+module _ (d : ℕ → ℕ → Bool) where
+  -- more steps than j are not needed to reach j
+  enough : (i f g j : ℕ) → j ≤ f → j ≤ g → reaches d f i j ≡ reaches d g i j
+  unfolding reaches
+  enough i zero zero j l m = refl
+  enough i zero (suc g) zero l m = refl
+  enough i zero (suc g) (suc j) l m = absurd (omega arith)
+  enough i (suc f) zero zero l m = refl
+  enough i (suc f) zero (suc j) l m = absurd (omega arith)
+  enough i (suc f) (suc g) j l m =
+      any-same _ _ j (λ k u. ap (λ (b : Bool). d k j && (eqb i k || b)) (enough i f g k (omega arith) (omega arith)))
+
+  reaches-chain : (f i j : ℕ) → reaches d f i j ≡ true → Chain d i j
+  unfolding reaches
+  reaches-chain zero i j h = absurd (false≢true h)
+  reaches-chain (suc f) i j h =
+      let r = any-found _ j h in
+      let s = and-left (d (r .0) j) _ (r .2) in
+      or-cases (eqb i (r .0)) (reaches d f i (r .0)) (and-right (d (r .0) j) _ (r .2))
+      (λ e. link (rw (eqb-true i (r .0) e) s))
+      (λ e. onward (reaches-chain f i (r .0) e) s)
+
+module _ (es : List Event) where
+  -- what happens before j: its direct predecessors, and what happens before them
+  pub row-union : (i j : ℕ) → before es i j ≡ anyBelow (λ k. step es k j && (eqb i k || before es i k)) j
+  unfolding before reaches
+  row-union i zero = refl
+  row-union i (suc j) =
+      any-same _ _ (suc j) (λ k l. ap (λ (b : Bool). step es k (suc j) && (eqb i k || b)) (enough (step es) i j k k (omega arith) (le-refl k)))
+
+  step-later : (i j : ℕ) → step es i j ≡ true → (i < j) × (j < length es)
+  unfolding step
+  step-later i j h =
+      let below = ltb j (length es) in
+      let p = precedes (eventAt es i) (eventAt es j) in
+      (ltb-true i j (and-left (ltb i j) (below && p) h), ltb-true j (length es) (and-left below p (and-right (ltb i j) (below && p) h)))
+
+  -- a chain goes to a later line of the trace
+  pub chain-later : {i j : ℕ} → Chain (step es) i j → (i < j) × (j < length es)
+  chain-later (link {i = i} {j = j} s) = step-later i j s
+  chain-later (onward {k = k} {j = j} c s) = let l = chain-later c in let m = step-later k j s in (omega arith, m .1)
+
+  chain-before : {i j : ℕ} → Chain (step es) i j → before es i j ≡ true
+  chain-before (link {i = i} {j = j} s) =
+      row-union i j ∙ any-at _ j i (step-later i j s .0) (and-intro s (rw (eq-eqb i i refl) refl))
+  chain-before (onward {i = i} {k = k} {j = j} c s) =
+      row-union i j ∙ any-at _ j k (step-later k j s .0) (and-intro s (rw (chain-before c) (or-true (eqb i k))))
+
+  -- `before` decides whether there is a chain
+  pub before-iff : (i j : ℕ) → (before es i j ≡ true) ↔ Chain (step es) i j
+  unfolding before
+  before-iff i j = (reaches-chain (step es) j i j, chain-before)
+
+  -- nothing happens before an event that the trace does not have
+  pub before-end : (i j : ℕ) → length es ≤ j → before es i j ≡ false
+  before-end i j l = split (before es i j) (λ e. let m = chain-later (before-iff i j .0 e) in absurd (omega arith)) (λ e. e)

@@ -1,0 +1,6 @@
+// Happens-before: for each event of a trace the set of the events before it.
+pub mod closure;
+mod sets;
+
+pub use closure::happens_before;
+pub use closure::is_before;

@@ -1,0 +1,43 @@
+-- Document 01, "Trace text": the words of `do`.
+use mathlib.Core.Bool.{cond}
+use mathlib.Core.List.{List, [], _∷_}
+use mathlib.Core.Option.{Option, none, some}
+use Prim.Native.Nat.{ℕ, _+_}
+use lib.ListN.{length, drop}
+use Rattle.digits.specs.Reading.{Reader, startsWith}
+use Rattle.eventline.specs.declared.words.Word.{Word}
+use Rattle.eventline.specs.declared.words.Word.the-variants as W
+use Rattle.eventline.specs.declared.words.WordRead.{WordRead}
+
+-- the word's text, with the space that ends it
+abbrev pub wordText : Word → List ℕ
+wordText W.Other = 111 ∷ 116 ∷ 104 ∷ 32 ∷ []
+wordText W.Barrier = 98 ∷ 97 ∷ 114 ∷ 32 ∷ []
+wordText W.Message = 109 ∷ 115 ∷ 103 ∷ 32 ∷ []
+wordText W.Packet = 112 ∷ 107 ∷ 116 ∷ 32 ∷ []
+wordText W.Add = 97 ∷ 100 ∷ 100 ∷ 32 ∷ []
+wordText W.AddChecked = 97 ∷ 100 ∷ 100 ∷ 99 ∷ 32 ∷ []
+wordText W.ModifyStrict = 109 ∷ 111 ∷ 100 ∷ 115 ∷ 32 ∷ []
+wordText W.Modify = 109 ∷ 111 ∷ 100 ∷ 110 ∷ 32 ∷ []
+wordText W.DeleteStrict = 100 ∷ 101 ∷ 108 ∷ 115 ∷ 32 ∷ []
+wordText W.Delete = 100 ∷ 101 ∷ 108 ∷ 110 ∷ 32 ∷ []
+
+-- a word where its text stands at the place, else another answer
+unfoldable pub wordOr : List ℕ → Word → Option (Word × ℕ) → Reader Word
+wordOr text w other s at = cond (startsWith text (drop at s)) (some (w, at + length text)) other
+
+-- the first of some words whose text stands at the place
+unfoldable pub readOneOf : List Word → Reader Word
+readOneOf [] s at = none
+readOneOf (w ∷ ws) s at = wordOr (wordText w) w (readOneOf ws s at) s at
+
+abbrev pub allWords : List Word
+allWords = W.Other ∷ W.Barrier ∷ W.Message ∷ W.Packet ∷ W.Add ∷ W.AddChecked ∷ W.ModifyStrict ∷ W.Modify ∷ W.DeleteStrict ∷ W.Delete ∷ []
+
+unfoldable pub readWord : Reader Word
+readWord s at = readOneOf allWords s at
+
+-- what the enum says
+abbrev pub asWord : WordRead → Option (Word × ℕ)
+asWord (WordRead.Read w n) = some (w, n)
+asWord WordRead.Bad = none

@@ -1,0 +1,52 @@
+// The word of `do`, with the space that ends it.
+use digits::starts_with;
+ghost use mathlib.Core.Path.{_≡_};
+ghost use Rattle.eventline.specs.Words.{wordOr, readWord, asWord};
+
+pub enum Word {
+    Other,
+    Barrier,
+    Message,
+    Packet,
+    Add,
+    AddChecked,
+    ModifyStrict,
+    Modify,
+    DeleteStrict,
+    Delete,
+}
+
+// A word that was read and the place after its space, or no such word.
+pub enum WordRead {
+    Read { value: Word, next: usize },
+    Bad,
+}
+
+// The word where its text stands at the place, else the other answer.
+fn word_or(s: &[u8], at: usize, text: &[u8], value: Word, other: WordRead) -> WordRead
+    ensures { λ r. ⌜ asWord r ≡ wordOr (now (text .entry)) value (asWord other) (now (s .entry)) at ⌝ }
+{
+    if starts_with(s, at, text) {
+        return WordRead::Read {
+            value,
+            next: at + text.len(),
+        };
+    }
+    other
+}
+
+// Any of the ten.
+pub fn read_word(s: &[u8], at: usize) -> WordRead
+    ensures { λ r. ⌜ asWord r ≡ readWord (now (s .entry)) at ⌝ }
+{
+    let r = word_or(s, at, b"deln ", Word::Delete, WordRead::Bad);
+    let r = word_or(s, at, b"dels ", Word::DeleteStrict, r);
+    let r = word_or(s, at, b"modn ", Word::Modify, r);
+    let r = word_or(s, at, b"mods ", Word::ModifyStrict, r);
+    let r = word_or(s, at, b"addc ", Word::AddChecked, r);
+    let r = word_or(s, at, b"add ", Word::Add, r);
+    let r = word_or(s, at, b"pkt ", Word::Packet, r);
+    let r = word_or(s, at, b"msg ", Word::Message, r);
+    let r = word_or(s, at, b"bar ", Word::Barrier, r);
+    word_or(s, at, b"oth ", Word::Other, r)
+}

@@ -1,0 +1,11 @@
+use mathlib.Core.Path.{refl}
+use Rattle.events.specs.Events.{eventsOf}
+use Rattle.events.proofs.trace.Trace.empty.Statement.{statement}
+use Rattle.events.proofs.trace.Trace.empty.Tie as tie
+
+returns : tie.Need-returns
+unfolding eventsOf
+returns c = (refl, refl)
+
+pub empty-spec : {M : Type 1} → statement M
+empty-spec = tie.close (tie.spec returns)

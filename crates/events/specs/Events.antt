@@ -1,0 +1,58 @@
+-- Document 01, "Trace text": the events of a trace, their tokens, and the kinds of operations that barriers tell apart.
+use mathlib.Core.Bool.{Bool, true, false, _||_}
+use mathlib.Core.List.{List, [], _∷_}
+use Prim.Native.Nat.{ℕ}
+use lib.ListN.{take, getD}
+use Rattle.orders.specs.Orders.{has}
+use Rattle.events.specs.Types.{TableOperation, Lookup, Add, AddChecked, ModifyStrict, Modify, DeleteStrict, Delete, Operation, Other, Barrier, Message, OnTable, Tokens, Event, Trace}
+
+-- the numbers of a token list: the first `count` of the four
+unfoldable pub tokensOf : Tokens → List ℕ
+tokensOf s = take (s .count) (s .t0 ∷ s .t1 ∷ s .t2 ∷ s .t3 ∷ [])
+
+-- some number of the list passes the test
+abbrev pub anyOf : (ℕ → Bool) → List ℕ → Bool
+anyOf p [] = false
+anyOf p (t ∷ ts) = p t || anyOf p ts
+
+-- some number stands in both
+unfoldable pub shares : List ℕ → List ℕ → Bool
+shares ss ts = anyOf (λ t. has t ts) ss
+
+-- the events of a trace, in its order
+unfoldable pub eventsOf : Trace → List Event
+eventsOf t = take (t .len) (t .events)
+
+-- what stands past the end: no tokens, and `oth`
+abbrev pub noTokens : Tokens
+noTokens = record { t0 = 0; t1 = 0; t2 = 0; t3 = 0; count = 0 }
+
+abbrev pub noEvent : Event
+noEvent = record { ins = noTokens; outs = noTokens; operation = Other }
+
+-- the event of line i
+abbrev pub eventAt : List Event → ℕ → Event
+eventAt es i = getD es i noEvent
+
+abbrev pub isBarrier : Operation → Bool
+isBarrier Other = false
+isBarrier (Barrier w) = true
+isBarrier (Message w) = false
+isBarrier (OnTable w o) = false
+
+-- a table operation that is a write: all but a packet
+abbrev pub isWrite : TableOperation → Bool
+isWrite (Lookup p) = false
+isWrite (Add e) = true
+isWrite (AddChecked e) = true
+isWrite (ModifyStrict e) = true
+isWrite (Modify e) = true
+isWrite (DeleteStrict k) = true
+isWrite (Delete m) = true
+
+-- among writes, `bar` and `msg`: what a barrier of the same switch orders
+abbrev pub barrierOrders : Operation → Bool
+barrierOrders Other = false
+barrierOrders (Barrier w) = true
+barrierOrders (Message w) = true
+barrierOrders (OnTable w o) = isWrite o

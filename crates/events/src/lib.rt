@@ -1,0 +1,13 @@
+// The events of a trace, and when an event directly precedes a later one.
+pub mod barriers;
+pub mod event;
+pub mod tokens;
+pub mod trace;
+
+pub use barriers::barrier_orders;
+pub use barriers::barrier_step;
+pub use barriers::is_barrier;
+pub use barriers::switch_of;
+pub use event::Event;
+pub use tokens::Tokens;
+pub use trace::Trace;

@@ -1,0 +1,46 @@
+// A trace: its events in an array, and how many there are.
+use crate::event::Event;
+use crate::tokens::Tokens;
+use table::Operation;
+ghost use mathlib.Core.Path.{_≡_};
+ghost use mathlib.Core.List.{[], _∷_, _++_};
+ghost use Prim.Native.Nat.{_+_, _<_};
+ghost use Rattle.events.specs.Events.{eventsOf};
+
+pub struct Trace {
+    pub events: [Event; 256],
+    pub len: usize,
+}
+
+impl Trace {
+    pub fn empty() -> Trace
+        ensures { λ r. ⌜ (eventsOf r ≡ []) × (r .len ≡ 0) ⌝ }
+    {
+        let none = Tokens {
+            t0: 0,
+            t1: 0,
+            t2: 0,
+            t3: 0,
+            count: 0,
+        };
+        let idle = Event {
+            ins: none,
+            outs: none,
+            operation: Operation::Other,
+        };
+        let events = [idle; 256];
+        Trace { events, len: 0 }
+    }
+
+    // One event more, at the end.
+    pub fn push(self, e: Event) -> Trace
+        requires { ⌜ self .len < 256 ⌝ }
+        ensures { λ r. ⌜ (eventsOf r ≡ eventsOf self ++ (e ∷ [])) × (r .len ≡ self .len + 1) ⌝ }
+    {
+        let n = self.len;
+        let mut next = self;
+        next.events[n] = e;
+        next.len = n + 1;
+        next
+    }
+}

@@ -5,7 +5,7 @@ use Rattle.commute.proofs.rows.add_add.Tie as tie
 
 returns : tie.Need-returns
 unfolding add-add
-returns c = cc
+returns c = rw (c .same2 .ensures, c .before .same .ensures)
 
 pub add-add-spec : {M : Type 1} → statement M
 add-add-spec = tie.close (tie.spec (λ c κs. search needs) (λ c κs. search needs) returns)

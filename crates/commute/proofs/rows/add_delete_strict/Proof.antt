@@ -5,7 +5,7 @@ use Rattle.commute.proofs.rows.add_delete_strict.Tie as tie
 
 returns : tie.Need-returns
 unfolding add-dels
-returns c = cc
+returns c = rw (c .same .ensures)
 
 pub add-delete-strict-spec : {M : Type 1} → statement M
 add-delete-strict-spec = tie.close (tie.spec (λ c κs. search needs) returns)

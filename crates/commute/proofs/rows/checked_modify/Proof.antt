@@ -5,7 +5,7 @@ use Rattle.commute.proofs.rows.checked_modify.Tie as tie
 
 returns : tie.Need-returns
 unfolding addc-modn
-returns c = cc
+returns c = rw (c .clash .ensures, c .before .within .ensures)
 
 pub checked-modify-spec : {M : Type 1} → statement M
 checked-modify-spec = tie.close (tie.spec (λ c κs. search needs) (λ c κs. search needs) returns)

@@ -5,7 +5,7 @@ use Rattle.commute.proofs.rows.modify_delete_strict.Tie as tie
 
 returns : tie.Need-returns
 unfolding modn-dels
-returns c = cc
+returns c = rw (c .within .ensures)
 
 pub modify-delete-strict-spec : {M : Type 1} → statement M
 modify-delete-strict-spec = tie.close (tie.spec (λ c κs. search needs) returns)

@@ -5,7 +5,7 @@ use Rattle.commute.proofs.rows.modify_modify.Tie as tie
 
 returns : tie.Need-returns
 unfolding modn-modn
-returns c = cc
+returns c = rw (c .same2 .ensures, c .before .overlaps .ensures, c .before .before .within2 .ensures, c .before .before .before .within .ensures, c .before .before .before .before .same .ensures)
 
 pub modify-modify-spec : {M : Type 1} → statement M
 modify-modify-spec =

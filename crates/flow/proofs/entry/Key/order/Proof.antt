@@ -5,7 +5,7 @@ use Rattle.flow.proofs.entry.Key.order.Tie as tie
 
 returns : tie.Need-returns
 unfolding keyOrder
-returns c = cc
+returns c = rw (c .order-of .ensures, c .before .before .before .order .ensures)
 
 pub order-spec : {M : Type 1} → statement M
 order-spec =

@@ -5,7 +5,7 @@ use Rattle.flow.proofs.matching.Match.fits.Tie as tie
 
 returns : tie.Need-returns
 unfolding fits
-returns c = cc
+returns c = rw (c .fits7 .ensures, c .before .fits6 .ensures, c .before .before .fits5 .ensures, c .before .before .before .fits4 .ensures, c .before .before .before .before .fits3 .ensures, c .before .before .before .before .before .fits2 .ensures)
 
 pub fits-spec : {M : Type 1} → statement M
 fits-spec =

@@ -5,7 +5,7 @@ use Rattle.flow.proofs.matching.Match.is_clear.Tie as tie
 
 returns : tie.Need-returns
 unfolding clear
-returns c = cc
+returns c = rw (c .is-clear2 .ensures, c .before .is-clear .ensures)
 
 pub is-clear-spec : {M : Type 1} → statement M
 is-clear-spec = tie.close (tie.spec (λ c κs. search needs) (λ c κs. search needs) returns)

@@ -5,7 +5,7 @@ use Rattle.flow.proofs.matching.Match.overlaps.Tie as tie
 
 returns : tie.Need-returns
 unfolding overlaps
-returns c = cc
+returns c = rw (c .overlaps6 .ensures, c .before .overlaps5 .ensures, c .before .before .overlaps4 .ensures, c .before .before .before .overlaps3 .ensures, c .before .before .before .before .overlaps2 .ensures, c .before .before .before .before .before .overlaps .ensures)
 
 pub overlaps-spec : {M : Type 1} → statement M
 overlaps-spec =

@@ -5,7 +5,7 @@ use Rattle.flow.proofs.matching.Match.within.Tie as tie
 
 returns : tie.Need-returns
 unfolding within
-returns c = cc
+returns c = rw (c .within6 .ensures, c .before .within5 .ensures, c .before .before .within4 .ensures, c .before .before .before .within3 .ensures, c .before .before .before .before .within2 .ensures, c .before .before .before .before .before .within .ensures)
 
 pub within-spec : {M : Type 1} → statement M
 within-spec =

@@ -3,7 +3,7 @@ use Rattle.flow.proofs.prefix.Prefix.order.Statement.{statement}
 use Rattle.flow.proofs.prefix.Prefix.order.Tie as tie
 
 returns : tie.Need-returns
-returns c = cc
+returns c = rw (c .order-of2 .ensures, c .before .order-of .ensures)
 
 pub order-spec : {M : Type 1} → statement M
 order-spec =

@@ -5,7 +5,7 @@ use Rattle.commute.proofs.rows.add_delete.Tie as tie
 
 returns : tie.Need-returns
 unfolding add-deln
-returns c = rw (c .within .ensures)
+returns c = cc
 
 pub add-delete-spec : {M : Type 1} → statement M
 add-delete-spec = tie.close (tie.spec (λ c κs. search needs) returns)

@@ -5,7 +5,7 @@ use Rattle.commute.proofs.rows.apart_delete.Tie as tie
 
 returns : tie.Need-returns
 unfolding apart-deln
-returns c = rw (c .overlaps .ensures)
+returns c = cc
 
 pub apart-delete-spec : {M : Type 1} → statement M
 apart-delete-spec = tie.close (tie.spec (λ c κs. search needs) returns)

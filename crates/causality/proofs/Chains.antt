@@ -91,4 +91,4 @@ module _ (es : List Event) where
 
   -- nothing happens before an event that the trace does not have
   pub before-end : (i j : ℕ) → length es ≤ j → before es i j ≡ false
-  before-end i j l = split (before es i j) (λ e. let m = chain-later (before-iff i j .0 e) in absurd (omega arith)) (λ e. e)
+  before-end i j l = split (before es i j) (λ e. absurd (omega (arith, chain-later (before-iff i j .0 e) .1))) (λ e. e)

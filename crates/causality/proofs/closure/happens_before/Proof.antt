@@ -10,9 +10,6 @@ use Rattle.causality.specs.Rows.{Filled}
 use Rattle.causality.proofs.RowLaws.{filled-none, filled-more, filled-all}
 use Rattle.causality.proofs.closure.happens_before.Statement.{statement}
 use Rattle.causality.proofs.closure.happens_before.Tie as tie
-use Rattle.causality.proofs.closure.happens_before.Reads as reads
-use Rattle.causality.proofs.closure.happens_before.Lts as lts
-use Rattle.causality.proofs.closure.row_of.Reads as row-of-reads
 
 abbrev Inv-loop : tie.InvT-loop
 Inv-loop t n rows₀ j₀ rows j =
@@ -26,18 +23,6 @@ loop-holds c = (omega arith, search (needs, length-mapped), refl, filled-none _ 
 
 row-of-requires : tie.Need-row-of-requires Inv-loop μ-loop
 row-of-requires c κs = ((omega arith, omega arith), c .before .before .loop .inv .3)
-
-mul-rows : tie.Need-mul-rows Inv-loop μ-loop
-mul-rows c = omega arith
-
-array-set-from-rows : tie.Need-array-set-from-rows Inv-loop μ-loop
-array-set-from-rows c = omega arith
-
-add-j : tie.Need-add-j Inv-loop μ-loop
-add-j c = omega arith
-
-loop-less : tie.Need-loop-less Inv-loop μ-loop
-loop-less c = omega arith
 
 loop-again : tie.Need-loop-again Inv-loop μ-loop
 loop-again c =
@@ -62,10 +47,6 @@ happens-before-spec =
     Inv-loop
     μ-loop
     loop-holds
-    row-of-requires
-    mul-rows
-    array-set-from-rows
-    add-j
-    loop-less
+    row-of-requires (λ c. omega arith) (λ c. omega arith) (λ c. omega arith) (λ c. omega arith)
     loop-again
     returns)

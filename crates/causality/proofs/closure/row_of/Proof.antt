@@ -12,10 +12,6 @@ use Rattle.causality.proofs.SetLaws.{member-none}
 use Rattle.causality.proofs.RowLaws.{step-at, through, joined, filled-at}
 use Rattle.causality.proofs.closure.row_of.Statement.{statement}
 use Rattle.causality.proofs.closure.row_of.Tie as tie
-use Rattle.causality.proofs.closure.row_of.Reads as reads
-use Rattle.causality.proofs.closure.row_of.Lts as lts
-use Rattle.causality.proofs.sets.join_if.Reads as join-if-reads
-use Rattle.events.proofs.event.Event.precedes.Reads as precedes-reads
 
 abbrev Inv-loop : tie.InvT-loop
 Inv-loop rows j t second set₀ k₀ set k =
@@ -24,51 +20,9 @@ Inv-loop rows j t second set₀ k₀ set k =
 abbrev μ-loop : tie.MeasureT-loop
 μ-loop rows j t second set₀ k₀ set k = j - k
 
--- src/closure.rt:17:18
-mul-second : tie.Need-mul-second Inv-loop μ-loop
-mul-second c = omega arith
-
--- src/closure.rt:17:18
-element-copy-out-second : tie.Need-element-copy-out-second Inv-loop μ-loop
-element-copy-out-second c = omega arith
-
--- src/closure.rt:19:5
 loop-holds : tie.Need-loop-holds Inv-loop μ-loop
 loop-holds c = (omega arith, search (needs, length-mapped), λ i. member-none i)
 
--- src/closure.rt:20:21
-mul-first : tie.Need-mul-first Inv-loop μ-loop
-mul-first c = omega arith
-
--- src/closure.rt:20:21
-element-copy-out-first : tie.Need-element-copy-out-first Inv-loop μ-loop
-element-copy-out-first c = omega arith
-
--- src/closure.rt:21:19
-mul-row : tie.Need-mul-row Inv-loop μ-loop
-mul-row c = omega arith
-
--- src/closure.rt:21:19
-element-copy-out-row : tie.Need-element-copy-out-row Inv-loop μ-loop
-element-copy-out-row c = omega arith
-
--- src/closure.rt:22:13
-precedes-requires : tie.Need-precedes-requires Inv-loop μ-loop
-precedes-requires c κs = search needs
-
--- src/closure.rt:23:13
-join-if-requires : tie.Need-join-if-requires Inv-loop μ-loop
-join-if-requires c κs = omega arith
-
--- src/closure.rt:19:9
-add-k : tie.Need-add-k Inv-loop μ-loop
-add-k c = omega arith
-
--- src/closure.rt:19:5
-loop-less : tie.Need-loop-less Inv-loop μ-loop
-loop-less c = omega arith
-
--- src/closure.rt:19:5
 loop-again : tie.Need-loop-again Inv-loop μ-loop
 loop-again c =
     let l = c .before .before .before .before .before in
@@ -82,7 +36,6 @@ loop-again c =
           (filled-at (eventsOf t) _ _ (l .before .before .pre .1) i k (omega arith)),
     )
 
--- src/closure.rt:12:1
 returns : tie.Need-returns Inv-loop μ-loop
 returns c i =
     let e : c .before .loop .k ≡ c .before .before .before .args .j = omega arith in
@@ -93,17 +46,7 @@ row-of-spec =
     tie.close
     (tie.spec
     Inv-loop
-    μ-loop
-    mul-second
-    element-copy-out-second
-    loop-holds
-    mul-first
-    element-copy-out-first
-    mul-row
-    element-copy-out-row
-    precedes-requires
-    join-if-requires
-    add-k
-    loop-less
+    μ-loop (λ c. omega arith) (λ c. omega arith)
+    loop-holds (λ c. omega arith) (λ c. omega arith) (λ c. omega arith) (λ c. omega arith) (λ c κs. search needs) (λ c κs. omega arith) (λ c. omega arith) (λ c. omega arith)
     loop-again
     returns)

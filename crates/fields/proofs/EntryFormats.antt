@@ -1,0 +1,102 @@
+-- The texts of an action, a key and an entry.
+use Prim.Native.Nat.{ℕ, _≤_, _<_}
+use mathlib.Core.Bool.{false}
+use mathlib.Core.List.{List, _++_}
+use mathlib.Core.Logic.{_⊎_, inl, inr}
+use mathlib.Core.Path.{_≡_, refl}
+use native.Mathlib.Omega.{arith}
+use Rattle.digits.specs.Reading.{startsWith, mapped, keyed}
+use Rattle.digits.specs.Number.{readNumber}
+use Rattle.digits.specs.Print.{printNumber}
+use Rattle.digits.proofs.Numbers.{number-format}
+use Rattle.digits.proofs.Format.{Follows, Format, keyed-format, along, both-format}
+use Rattle.flow.specs.Entries.{ActionInRange}
+use Rattle.fields.specs.Types.{Action, Drop, Controller, Port, Key, Entry}
+use Rattle.fields.specs.Print.{prioKey, actKey, dropWord, controllerWord, outKey, printAction, printKey, printEntry}
+use Rattle.fields.specs.Read.{wordOr, readAction, readKey, readEntry}
+use Rattle.fields.specs.Written.{KeyWritten, EntryWritten}
+use Rattle.fields.proofs.Words.{word-format}
+use Rattle.fields.proofs.MatchFormats.{space-ends, match-follows, match-format}
+
+-- ---- `drop`, `ctl` or `pN`
+abbrev portOf : Action → ℕ
+portOf Drop = 0
+portOf Controller = 0
+portOf (Port n) = n
+
+-- an action but `drop`, and one that is a port
+abbrev NoDrop : Action → Type 0
+NoDrop Drop = ⊥
+NoDrop Controller = Unit {0}
+NoDrop (Port n) = n < 65536
+
+abbrev IsPort : Action → Type 0
+IsPort Drop = ⊥
+IsPort Controller = ⊥
+IsPort (Port n) = n < 65536
+
+to : (a : Action) → IsPort a → (portOf a ≤ 65535) × (Port (portOf a) ≡ a)
+to Drop o = absurd o
+to Controller o = absurd o
+to (Port n) o = (omega arith, refl)
+
+port-format : Format IsPort (λ a. outKey ++ printNumber (portOf a)) (mapped Port (keyed outKey (readNumber 65535)))
+port-format = along portOf Port to (λ v o. (omega arith, refl)) (keyed-format outKey (number-format 65535 (omega arith)))
+
+controller-or : (a : Action) → NoDrop a → (a ≡ Controller) ⊎ IsPort a
+controller-or Drop o = absurd o
+controller-or Controller o = inl refl
+controller-or (Port n) o = inr o
+
+is-port : (a : Action) → IsPort a → NoDrop a × (printAction a ≡ outKey ++ printNumber (portOf a))
+unfolding printAction
+is-port Drop o = absurd o
+is-port Controller o = absurd o
+is-port (Port n) o = (o, refl)
+
+no-drop-format : Format NoDrop printAction (wordOr controllerWord Controller (mapped Port (keyed outKey (readNumber 65535))))
+unfolding printAction startsWith
+no-drop-format = word-format controllerWord Controller (tt, refl) controller-or is-port (λ a o rest. refl) port-format
+
+drop-or : (a : Action) → ActionInRange a → (a ≡ Drop) ⊎ NoDrop a
+drop-or Drop o = inl refl
+drop-or Controller o = inr tt
+drop-or (Port n) o = inr o
+
+no-drop : (a : Action) → NoDrop a → ActionInRange a × (printAction a ≡ printAction a)
+no-drop Drop o = absurd o
+no-drop Controller o = (tt, refl)
+no-drop (Port n) o = (o, refl)
+
+drop-apart : (a : Action) → NoDrop a → (rest : List ℕ) → startsWith dropWord (printAction a ++ rest) ≡ false
+unfolding printAction startsWith
+drop-apart Drop o rest = absurd o
+drop-apart Controller o rest = refl
+drop-apart (Port n) o rest = refl
+
+pub action-format : Format ActionInRange printAction readAction
+unfolding printAction readAction
+action-format = word-format dropWord Drop (tt, refl) drop-or no-drop drop-apart no-drop-format
+
+-- ---- key and entry
+pub key-follows : Follows printKey
+unfolding printKey
+key-follows k rest e = space-ends _
+
+pub entry-follows : Follows printEntry
+unfolding printEntry printKey
+entry-follows f rest e = space-ends _
+
+pub key-format : Format KeyWritten printKey readKey
+unfolding printKey readKey
+key-format =
+    along (λ (k : Key). (k .priority, k .pattern)) _
+    (λ k o. ((omega arith, o .pattern), refl)) (λ f o. (record { priority = omega arith; pattern = o .1 }, refl))
+    (both-format match-follows (keyed-format prioKey (number-format 65535 (omega arith))) match-format)
+
+pub entry-format : Format EntryWritten printEntry readEntry
+unfolding printEntry readEntry
+entry-format =
+    along (λ (e : Entry). (e .key, e .action)) _
+    (λ e o. ((o .key, o .action), refl)) (λ f o. (record { key = o .0; action = o .1 }, refl))
+    (both-format (λ f rest e. space-ends _) key-format (keyed-format actKey action-format))

@@ -1,0 +1,53 @@
+-- The texts of `*` or a number, and of a prefix.
+use Prim.Native.Nat.{ℕ, _+_, _≤_, _<_, _^_}
+use mathlib.Core.Logic.{_⊎_, inl, inr}
+use mathlib.Core.Path.{_≡_, refl}
+use native.Mathlib.Omega.{arith}
+use Rattle.digits.specs.Reading.{mapped}
+use Rattle.digits.specs.Number.{readNumber}
+use Rattle.digits.specs.Print.{printNumber}
+use Rattle.digits.proofs.Numbers.{number-format}
+use Rattle.digits.proofs.Hex.{hex-format}
+use Rattle.digits.proofs.Format.{Format, keyed-format, along, both-format, keyed-ends}
+use Rattle.flow.specs.Matches.{ExactInRange, exactPoint}
+use Rattle.fields.specs.Types.{Exact, Any, Is, Prefix}
+use Rattle.fields.specs.Print.{anyWord, slashKey, printExact, printPrefix}
+use Rattle.fields.specs.Read.{readExact, readPrefix}
+use Rattle.fields.specs.Written.{PrefixWritten}
+use Rattle.fields.proofs.Words.{word-format, number-apart}
+
+-- ---- `*`, or a number
+-- a field that is a number
+abbrev NumberIn : ℕ → Exact → Type 0
+NumberIn w Any = ⊥
+NumberIn w (Is v) = v < w
+
+module _ (max : ℕ) (h : max < 10 ^ 10) where
+  to : (x : Exact) → NumberIn (max + 1) x → (exactPoint x ≤ max) × (Is (exactPoint x) ≡ x)
+  to Any o = absurd o
+  to (Is v) o = (omega arith, refl)
+
+  number-field : Format (NumberIn (max + 1)) (λ x. printNumber (exactPoint x)) (mapped Is (readNumber max))
+  number-field = along exactPoint Is to (λ v o. (omega arith, refl)) (number-format max h)
+
+  any-or : (x : Exact) → ExactInRange (max + 1) x → (x ≡ Any) ⊎ NumberIn (max + 1) x
+  any-or Any o = inl refl
+  any-or (Is v) o = inr o
+
+  is-number : (x : Exact) → NumberIn (max + 1) x → ExactInRange (max + 1) x × (printExact x ≡ printNumber (exactPoint x))
+  unfolding printExact
+  is-number Any o = absurd o
+  is-number (Is v) o = (o, refl)
+
+  pub exact-format : Format (ExactInRange (max + 1)) printExact (readExact max)
+  unfolding printExact readExact
+  exact-format = word-format anyWord Any (tt, refl) any-or is-number (λ x o rest. number-apart (exactPoint x) 42 _ rest (omega arith)) number-field
+
+-- ---- an address, and the length
+pub prefix-format : Format PrefixWritten printPrefix readPrefix
+unfolding printPrefix readPrefix
+prefix-format =
+    along (λ (p : Prefix). (p .value, p .length)) (λ (v, n). record { value = v; length = n })
+    (λ p o. ((o .value, o .length), refl)) (λ p o. (record { value = o .0; length = o .1 }, refl))
+    (both-format (keyed-ends printNumber slashKey refl) hex-format
+    (keyed-format slashKey (number-format 32 (omega arith))))

@@ -1,0 +1,7 @@
+pub mod Words
+pub mod FieldFormats
+pub mod MatchFormats
+pub mod EntryFormats
+pub mod Lengths
+pub mod Ranges
+pub mod Steps

@@ -1,0 +1,29 @@
+use Rattle.digits.proofs.Writing.{put-then}
+use Rattle.fields.specs.Print.{printAction}
+use borrow.Author.Needs.{needs}
+use Rattle.fields.proofs.entry.put_action.Statement.{statement}
+use Rattle.fields.proofs.entry.put_action.Tie as tie
+
+enum-told : tie.Need-enum-told
+enum-told c = search needs
+
+returns : tie.Need-returns
+unfolding printAction
+returns c = rw (c .before .before .before .before .before .enum-told .given .1) (c .before .before .put-bytes .ensures)
+
+returns-2 : tie.Need-returns-2
+unfolding printAction
+returns-2 c = rw (c .before .before .before .before .before .enum-told2 .given .1) (c .before .before .put-bytes2 .ensures)
+
+returns-3 : tie.Need-returns-3
+unfolding printAction
+returns-3 c = rw (c .before .before .before .before .before .before .before .before .before .before .a .given .1) (put-then (c .before .before .before .before .before .before .put-bytes3 .ensures) (c .before .before .put-number .ensures))
+
+pub put-action-spec : {M : Type 1} → statement M
+put-action-spec =
+    tie.close
+    (tie.spec
+    enum-told (λ c. search needs) (λ c κs. search needs) (λ c. search needs) (λ c. search needs) (λ c κs. search needs) (λ c. search needs) (λ c. search needs) (λ c κs. search needs) (λ c. search needs) (λ c κs. search needs) (λ c. search needs)
+    returns (λ c. search needs)
+    returns-2 (λ c. search needs)
+    returns-3)

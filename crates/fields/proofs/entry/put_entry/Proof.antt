@@ -1,0 +1,25 @@
+use native.Mathlib.Omega.{arith}
+use Rattle.digits.proofs.Writing.{put-then}
+use Rattle.fields.proofs.Lengths.{key-length}
+use Rattle.fields.specs.Print.{printEntry}
+use borrow.Author.Needs.{needs}
+use Rattle.fields.proofs.entry.put_entry.Statement.{statement}
+use Rattle.fields.proofs.entry.put_entry.Tie as tie
+
+put-bytes-requires : tie.Need-put-bytes-requires
+put-bytes-requires c κs = omega (arith, c .before .before .before .before .put-key .ensures .after, key-length (c .before .before .before .before .before .before .before .before .args .e .key))
+
+put-action-requires : tie.Need-put-action-requires
+put-action-requires c κs = omega (arith, c .before .before .before .put-bytes .ensures .after, c .before .before .before .before .before .before .before .before .put-key .ensures .after, key-length (c .before .before .before .before .before .before .before .before .before .before .before .before .args .e .key))
+
+returns : tie.Need-returns
+unfolding printEntry
+returns c = put-then (c .before .before .before .before .before .before .before .before .before .before .before .put-key .ensures) (put-then (c .before .before .before .before .before .before .put-bytes .ensures) (c .before .before .put-action .ensures))
+
+pub put-entry-spec : {M : Type 1} → statement M
+put-entry-spec =
+    tie.close
+    (tie.spec (λ c κs. search needs) (λ c. search needs)
+    put-bytes-requires
+    put-action-requires (λ c. search needs)
+    returns)

@@ -1,0 +1,4 @@
+pub mod Types
+pub mod Print
+pub mod Read
+pub mod Written

@@ -1,0 +1,98 @@
+-- Document 01, "Trace text" and "Tables and replay": the texts of the parts of a line. Each item has its space in front.
+use Prim.Native.Nat.{ℕ}
+use mathlib.Core.List.{List, [], _∷_, _++_}
+use Rattle.digits.specs.Print.{printNumber, printHex}
+use Rattle.fields.specs.Types.{Exact, Any, Is, Prefix, Match, Packet, Action, Drop, Controller, Port, Key, Entry}
+
+-- ` port=`
+abbrev pub portKey : List ℕ
+portKey = 32 ∷ 112 ∷ 111 ∷ 114 ∷ 116 ∷ 61 ∷ []
+
+-- ` src=`
+abbrev pub srcKey : List ℕ
+srcKey = 32 ∷ 115 ∷ 114 ∷ 99 ∷ 61 ∷ []
+
+-- ` dst=`
+abbrev pub dstKey : List ℕ
+dstKey = 32 ∷ 100 ∷ 115 ∷ 116 ∷ 61 ∷ []
+
+-- ` proto=`
+abbrev pub protoKey : List ℕ
+protoKey = 32 ∷ 112 ∷ 114 ∷ 111 ∷ 116 ∷ 111 ∷ 61 ∷ []
+
+-- ` sport=`
+abbrev pub sportKey : List ℕ
+sportKey = 32 ∷ 115 ∷ 112 ∷ 111 ∷ 114 ∷ 116 ∷ 61 ∷ []
+
+-- ` dport=`
+abbrev pub dportKey : List ℕ
+dportKey = 32 ∷ 100 ∷ 112 ∷ 111 ∷ 114 ∷ 116 ∷ 61 ∷ []
+
+-- ` prio=`
+abbrev pub prioKey : List ℕ
+prioKey = 32 ∷ 112 ∷ 114 ∷ 105 ∷ 111 ∷ 61 ∷ []
+
+-- ` act=`
+abbrev pub actKey : List ℕ
+actKey = 32 ∷ 97 ∷ 99 ∷ 116 ∷ 61 ∷ []
+
+-- `*`
+abbrev pub anyWord : List ℕ
+anyWord = 42 ∷ []
+
+-- `/`
+abbrev pub slashKey : List ℕ
+slashKey = 47 ∷ []
+
+-- `drop`
+abbrev pub dropWord : List ℕ
+dropWord = 100 ∷ 114 ∷ 111 ∷ 112 ∷ []
+
+-- `ctl`
+abbrev pub controllerWord : List ℕ
+controllerWord = 99 ∷ 116 ∷ 108 ∷ []
+
+-- `p`
+abbrev pub outKey : List ℕ
+outKey = 112 ∷ []
+
+-- `*`, or a number
+unfoldable pub printExact : Exact → List ℕ
+printExact Any = anyWord
+printExact (Is v) = printNumber v
+
+-- eight hexadecimal digits, `/`, the length
+unfoldable pub printPrefix : Prefix → List ℕ
+printPrefix p = printHex (p .value) ++ (slashKey ++ printNumber (p .length))
+
+unfoldable pub printMatch : Match → List ℕ
+printMatch m =
+    (portKey ++ printExact (m .port))
+    ++ ((srcKey ++ printPrefix (m .src))
+    ++ ((dstKey ++ printPrefix (m .dst))
+    ++ ((protoKey ++ printExact (m .proto))
+    ++ ((sportKey ++ printExact (m .sport))
+    ++ (dportKey ++ printExact (m .dport))))))
+
+unfoldable pub printPacket : Packet → List ℕ
+printPacket p =
+    (portKey ++ printNumber (p .port))
+    ++ ((srcKey ++ printHex (p .src))
+    ++ ((dstKey ++ printHex (p .dst))
+    ++ ((protoKey ++ printNumber (p .proto))
+    ++ ((sportKey ++ printNumber (p .sport))
+    ++ (dportKey ++ printNumber (p .dport))))))
+
+-- `drop`, `ctl` or `pN`
+unfoldable pub printAction : Action → List ℕ
+printAction Drop = dropWord
+printAction Controller = controllerWord
+printAction (Port n) = outKey ++ printNumber n
+
+-- priority, then match
+unfoldable pub printKey : Key → List ℕ
+printKey k = (prioKey ++ printNumber (k .priority)) ++ printMatch (k .pattern)
+
+-- key, then action
+unfoldable pub printEntry : Entry → List ℕ
+printEntry e = printKey (e .key) ++ (actKey ++ printAction (e .action))

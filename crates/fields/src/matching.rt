@@ -1,0 +1,154 @@
+// The six fields of a match and of a packet, read from a place of a text; a match put at a place of a buffer.
+use crate::field::ExactRead;
+use crate::field::PrefixRead;
+use crate::field::exact_at;
+use crate::field::prefix_at;
+use crate::field::put_exact;
+use crate::field::put_prefix;
+use digits::Number;
+use digits::hex_at;
+use digits::number_at;
+use flow::Match;
+use flow::Packet;
+ghost use mathlib.Core.Path.{_≡_};
+ghost use Prim.Native.Nat.{_<_, _^_};
+ghost use Rattle.digits.specs.Print.{Put};
+ghost use Rattle.fields.specs.Print.{printMatch};
+ghost use Rattle.fields.specs.Read.{readMatch, readPacket, asMatch, asPacket};
+
+// A match that was read and the place after it, or no match.
+pub enum MatchRead {
+    Read { value: Match, next: usize },
+    Bad,
+}
+
+// A packet that was read and the place after it, or no packet.
+pub enum PacketRead {
+    Read { value: Packet, next: usize },
+    Bad,
+}
+
+// The six fields of a match.
+pub fn match_at(s: &[u8], at: usize) -> MatchRead
+    ensures { λ r. ⌜ asMatch r ≡ readMatch (now (s .entry)) at ⌝ }
+{
+    let ExactRead::Read {
+        value: port,
+        next: a,
+    } = exact_at(s, at, b" port=", 65535)
+    else {
+        return MatchRead::Bad;
+    };
+    let PrefixRead::Read {
+        value: src,
+        next: b,
+    } = prefix_at(s, a, b" src=")
+    else {
+        return MatchRead::Bad;
+    };
+    let PrefixRead::Read {
+        value: dst,
+        next: c,
+    } = prefix_at(s, b, b" dst=")
+    else {
+        return MatchRead::Bad;
+    };
+    let ExactRead::Read {
+        value: proto,
+        next: d,
+    } = exact_at(s, c, b" proto=", 255)
+    else {
+        return MatchRead::Bad;
+    };
+    let ExactRead::Read {
+        value: sport,
+        next: e,
+    } = exact_at(s, d, b" sport=", 65535)
+    else {
+        return MatchRead::Bad;
+    };
+    let ExactRead::Read { value: dport, next } = exact_at(s, e, b" dport=", 65535) else {
+        return MatchRead::Bad;
+    };
+    let value = Match {
+        port,
+        src,
+        dst,
+        proto,
+        sport,
+        dport,
+    };
+    MatchRead::Read { value, next }
+}
+
+// The six fields of a packet, all exact.
+pub fn packet_at(s: &[u8], at: usize) -> PacketRead
+    ensures { λ r. ⌜ asPacket r ≡ readPacket (now (s .entry)) at ⌝ }
+{
+    let Number::Read {
+        value: port,
+        next: a,
+    } = number_at(s, at, b" port=", 65535)
+    else {
+        return PacketRead::Bad;
+    };
+    let Number::Read {
+        value: src,
+        next: b,
+    } = hex_at(s, a, b" src=")
+    else {
+        return PacketRead::Bad;
+    };
+    let Number::Read {
+        value: dst,
+        next: c,
+    } = hex_at(s, b, b" dst=")
+    else {
+        return PacketRead::Bad;
+    };
+    let Number::Read {
+        value: proto,
+        next: d,
+    } = number_at(s, c, b" proto=", 255)
+    else {
+        return PacketRead::Bad;
+    };
+    let Number::Read {
+        value: sport,
+        next: e,
+    } = number_at(s, d, b" sport=", 65535)
+    else {
+        return PacketRead::Bad;
+    };
+    let Number::Read { value: dport, next } = number_at(s, e, b" dport=", 65535) else {
+        return PacketRead::Bad;
+    };
+    let value = Packet {
+        port: port as u16,
+        src,
+        dst,
+        proto: proto as u16,
+        sport: sport as u16,
+        dport: dport as u16,
+    };
+    PacketRead::Read { value, next }
+}
+
+// The six fields of a match.
+pub fn put_match(out: &mut [u8], at: usize, m: Match) -> usize
+    requires { ⌜ at < 2 ^ 30 ⌝ }
+    ensures { λ r. ⌜ Put (printMatch m) at (now (out .entry)) r (now (out .exit)) ⌝ }
+{
+    let port = m.port;
+    let src = m.src;
+    let dst = m.dst;
+    let proto = m.proto;
+    let sport = m.sport;
+    let dport = m.dport;
+    let a = put_exact(out, at, b" port=", port);
+    let b = put_prefix(out, a, b" src=", src);
+    let c = put_prefix(out, b, b" dst=", dst);
+    let d = put_exact(out, c, b" proto=", proto);
+    let e = put_exact(out, d, b" sport=", sport);
+    put_exact(out, e, b" dport=", dport)
+}

@@ -1,0 +1,9 @@
+pub mod RowOrder
+pub mod RowLaws
+pub mod TablesOf
+pub mod Lookups
+pub mod Steps
+pub mod SortLaws
+pub mod Pass
+pub mod Places
+pub mod Turns

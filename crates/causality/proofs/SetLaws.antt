@@ -1,12 +1,12 @@
 -- Sets in rows of words: one element more, the union, the empty set. Assumes nothing.
-use Prim.Native.Nat.{ℕ, zero, suc, _+_, _-_, _*_, _/_, _%_, _^_, _<_, _≤_, max}
+use Prim.Native.Nat.{ℕ, zero, suc, _+_, _-_, _*_, _/_, _%_, _^_, _<_, max}
 use native.Mathlib.Nat.{eq-or-lt-of-le, zero-div, div-eq-of-lt, pow-suc}
 use native.Mathlib.Decide.{ℕ-discrete, decLt}
 use native.Mathlib.Omega.{arith}
 use mathlib.Core.Path.{_≡_, refl, sym, ap, subst, _∙_}
 use mathlib.Core.Logic.{⊎-elim}
 use mathlib.Core.List.{List, [], _∷_}
-use mathlib.Core.Bool.{Bool, true, false, _||_, or-comm}
+use mathlib.Core.Bool.{Bool, false, _||_, or-comm}
 use lib.Dec.{eqb}
 use lib.ListN.{length, getD, set, List·getD-eq-default}
 use lib.Seq.{getD-set-same, getD-set-other}
@@ -112,7 +112,7 @@ zero-word (suc (suc zero)) = refl
 zero-word (suc (suc (suc zero))) = refl
 zero-word (suc (suc (suc (suc w)))) = refl
 
--- the empty set
+-- the empty set, and a row that is not there
 pub member-none : (k : ℕ) → member noMembers k ≡ false
 unfolding member wordBit
 member-none k = ap (λ (x : ℕ). eqb (x / 2 ^ (k % 64) % 2) 1) (zero-word (k / 64)) ∙ ap (λ (x : ℕ). eqb (x % 2) 1) (zero-div (2 ^ (k % 64)))

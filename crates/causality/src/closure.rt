@@ -1,4 +1,4 @@
-// The rows of happens-before.
+// The rows of happens-before: row j is the set of the events before event j.
 use crate::sets::contains;
 use crate::sets::join_if;
 use events::Trace;
@@ -8,7 +8,7 @@ ghost use Rattle.events.specs.Events.{eventsOf};
 ghost use Rattle.causality.specs.Causality.{before};
 ghost use Rattle.causality.specs.Rows.{member, bit, Filled, HappensBefore};
 
-// The events before event j: each that directly precedes it, with those before that one.
+// The row of event j, from the rows of the earlier events: the union of its direct predecessors and their rows.
 fn row_of(t: Trace, rows: &[[u64; 4]; 256], j: usize) -> [u64; 4]
     requires { ⌜ (j < t .len) × (t .len ≤ 256) ⌝ }
     requires { ⌜ Filled (eventsOf t) j (now rows) ⌝ }
@@ -20,13 +20,13 @@ fn row_of(t: Trace, rows: &[[u64; 4]; 256], j: usize) -> [u64; 4]
         let first = t.events[k];
         let row = rows[k];
         let precedes = first.precedes(second);
-        let next = join_if(set, row, k, precedes);
+        let next = join_if(set, row, k as u8, precedes);
         set = next;
     }
     set
 }
 
-// For each event the set of those before it: the row of event j has the bit of event i.
+// For each event the set of those before it; past the last event, empty rows.
 pub fn happens_before(t: Trace) -> [[u64; 4]; 256]
     requires { ⌜ t .len ≤ 256 ⌝ }
     ensures { λ r. ⌜ HappensBefore (eventsOf t) r ⌝ }
@@ -41,10 +41,10 @@ pub fn happens_before(t: Trace) -> [[u64; 4]; 256]
     rows
 }
 
-// Event i happens before event j.
+// Event i is in the row of event j: it happens before it.
 pub fn is_before(rows: &[[u64; 4]; 256], i: u8, j: u8) -> bool
     ensures { λ r. ⌜ r ≡ bit (now (rows .entry)) i j ⌝ }
 {
     let row = rows[j as usize];
-    contains(row, i as usize)
+    contains(row, i)
 }

@@ -5,7 +5,7 @@ use mathlib.Core.List.{List, [], _∷_, _++_, map}
 use native.Mathlib.Numerals.{add-one}
 use lib.ListN.{length, take, getD, set, length-map}
 use lib.Seq.{length-take-le, getD-take, take-suc-set}
-use Rattle.events.specs.Types.{Event, Trace}
+use Rattle.events.specs.Types.{Trace}
 use Rattle.events.specs.Events.{eventsOf, noEvent, eventAt}
 
 -- an array's length, as a parameter's range states it: of the list of its elements' parts

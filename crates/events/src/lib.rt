@@ -4,9 +4,6 @@ pub mod event;
 pub mod tokens;
 pub mod trace;
 
-pub use barriers::barrier_orders;
-pub use barriers::barrier_step;
-pub use barriers::is_barrier;
 pub use barriers::switch_of;
 pub use event::Event;
 pub use tokens::Tokens;

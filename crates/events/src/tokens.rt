@@ -3,7 +3,7 @@ ghost use mathlib.Core.Path.{_≡_};
 ghost use Rattle.orders.specs.Orders.{has};
 ghost use Rattle.events.specs.Events.{tokensOf, shares};
 
-// None to four numbers: the first `count` of the four.
+// None to four numbers: the first `count` of the four, all of them where it is more.
 pub struct Tokens {
     pub t0: u16,
     pub t1: u16,

@@ -8,4 +8,5 @@ unfolding member wordBit
 returns c = search needs
 
 pub contains-spec : {M : Type 1} → statement M
-contains-spec = tie.close (tie.spec (λ c. search needs) (λ c. search needs) (λ c. search needs) returns)
+contains-spec =
+    tie.close (tie.spec (λ c. search needs) (λ c. search needs) (λ c. search needs) (λ c. search needs) (λ c. search needs) returns)

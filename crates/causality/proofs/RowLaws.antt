@@ -16,7 +16,7 @@ use Rattle.events.proofs.TraceLaws.{length-events, event-at}
 use Rattle.causality.specs.Types.{Event, Trace}
 use Rattle.causality.specs.Causality.{step, anyBelow, before}
 use Rattle.causality.specs.Rows.{member, noMembers, bit, Filled, HappensBefore}
-use Rattle.causality.proofs.Chains.{before-end}
+use Rattle.causality.proofs.Chains.{through, before-end}
 use Rattle.causality.proofs.SetLaws.{member-none, member-nil}
 
 -- a step between two lines of a trace, as its array holds them
@@ -26,10 +26,6 @@ unfolding step
 step-at t h i j l m =
     simp (lt-ltb i j l, lt-ltb j (length (eventsOf t)) (omega (arith, length-events t h)))
     (ap₂ precedes (event-at t i (omega arith)) (event-at t j m))
-
--- event i is event k or happens before it, and k directly precedes j
-abbrev pub through : List Event → ℕ → ℕ → ℕ → Bool
-through es i j k = step es k j && (eqb i k || before es i k)
 
 -- a turn of filling the row of j: event k, with its row, where it directly precedes j
 pub joined : (es : List Event) (i j k : ℕ) {x y z p : Bool} → x ≡ (y || (p && (eqb i k || z))) → y ≡ anyBelow (through es i j) k

@@ -27,7 +27,7 @@ parity (suc (suc p)) q hp hq = absurd (omega arith)
 or-odd : (a b : ℕ) → bitOr a b % 2 ≡ max (a % 2) (b % 2)
 or-odd a b = omega (arith, or-step a b)
 
-pub bit-or : (x y k : ℕ) → wordBit (bitOr x y) k ≡ (wordBit x k || wordBit y k)
+bit-or : (x y k : ℕ) → wordBit (bitOr x y) k ≡ (wordBit x k || wordBit y k)
 unfolding wordBit
 bit-or x y k =
     ap (λ (n : ℕ). eqb (n % 2) 1) (or-shr x y k)
@@ -49,7 +49,7 @@ pow-below k i h =
 pow-same : (k : ℕ) → 2 ^ k / 2 ^ k % 2 ≡ 1
 pow-same k = subst (λ (n : ℕ). 2 ^ n / 2 ^ k % 2 ≡ 1) (omega arith) (ap (λ (n : ℕ). n % 2) (down 0 k))
 
-pub bit-pow : (k i : ℕ) → wordBit (2 ^ k) i ≡ eqb i k
+bit-pow : (k i : ℕ) → wordBit (2 ^ k) i ≡ eqb i k
 unfolding wordBit
 bit-pow k i =
     elim (decLt i k) [

@@ -16,7 +16,7 @@ none-passes p zero = refl
 none-passes p (suc n) = refl
 
 -- some number of the list passes the test
-pub tested : (p : ℕ → Bool) (s : Tokens)
+tested : (p : ℕ → Bool) (s : Tokens)
     → ((ltb 0 (s .count) && p (s .t0)) || (ltb 1 (s .count) && p (s .t1)) || (ltb 2 (s .count) && p (s .t2)) || (ltb 3 (s .count) && p (s .t3))) ≡ anyOf p (tokensOf s)
 unfolding tokensOf
 tested p s = go (s .count) (s .t0) (s .t1) (s .t2) (s .t3)

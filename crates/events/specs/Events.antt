@@ -6,7 +6,7 @@ use lib.ListN.{take, getD}
 use Rattle.orders.specs.Orders.{has}
 use Rattle.events.specs.Types.{TableOperation, Lookup, Add, AddChecked, ModifyStrict, Modify, DeleteStrict, Delete, Operation, Other, Barrier, Message, OnTable, Tokens, Event, Trace}
 
--- the numbers of a token list: the first `count` of the four
+-- the numbers of a token list: the first `count` of the four, all of them where it is more
 unfoldable pub tokensOf : Tokens → List ℕ
 tokensOf s = take (s .count) (s .t0 ∷ s .t1 ∷ s .t2 ∷ s .t3 ∷ [])
 
@@ -23,7 +23,7 @@ shares ss ts = anyOf (λ t. has t ts) ss
 unfoldable pub eventsOf : Trace → List Event
 eventsOf t = take (t .len) (t .events)
 
--- what stands past the end: no tokens, and `oth`
+-- no tokens, and what stands past the end: `oth` with none
 abbrev pub noTokens : Tokens
 noTokens = record { t0 = 0; t1 = 0; t2 = 0; t3 = 0; count = 0 }
 

@@ -8,9 +8,9 @@ use Rattle.events.specs.Events.{eventsOf}
 use Rattle.events.proofs.TraceLaws.{length-mapped}
 use Rattle.causality.specs.Causality.{anyBelow}
 use Rattle.causality.specs.Rows.{member}
-use Rattle.causality.proofs.Chains.{row-union}
+use Rattle.causality.proofs.Chains.{through, row-union}
 use Rattle.causality.proofs.SetLaws.{member-none}
-use Rattle.causality.proofs.RowLaws.{step-at, through, joined, filled-at}
+use Rattle.causality.proofs.RowLaws.{step-at, joined, filled-at}
 use Rattle.causality.proofs.closure.row_of.Statement.{statement}
 use Rattle.causality.proofs.closure.row_of.Tie as tie
 

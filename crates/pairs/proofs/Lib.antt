@@ -1,0 +1,4 @@
+pub mod PairLaws
+pub mod Members
+pub mod Theorems
+pub mod Numbers

@@ -1,0 +1,78 @@
+-- Document 01, "The list": n(n-1)/2 pairs for n table events of a switch, summed over switches. And the counts as the code keeps
+-- them: of each pair one verdict.
+use mathlib.Core.Bool.{Bool, true, false, _&&_, cond}
+use mathlib.Core.List.{List}
+use Prim.Native.Nat.{ℕ, zero, suc, _+_, _-_, _*_, _/_, _≤_}
+use lib.Dec.{eqb}
+use Rattle.table.specs.FlowTable.{effectOf}
+use Rattle.commute.specs.Commuting.{commutes}
+use Rattle.orders.specs.Tables.{usesTable, switchOf, paired}
+use Rattle.events.specs.Events.{eventAt}
+use Rattle.pairs.specs.Types.{Operation, Event, Counts, Verdict, Unpaired, Ordered, Commuting, Listed}
+use Rattle.pairs.specs.List.{Kind, pairs, ordered, commuting, listed, gather, cell, test, Pair}
+
+abbrev pub size : Bool → ℕ
+size true = 1
+size false = 0
+
+-- how many numbers below n pass the test
+abbrev pub countBelow : (ℕ → Bool) → ℕ → ℕ
+countBelow p zero = 0
+countBelow p (suc n) = countBelow p n + size (p n)
+
+-- f 0 + f 1 + .. + f (n - 1)
+abbrev pub sumBelow : (ℕ → ℕ) → ℕ → ℕ
+sumBelow f zero = 0
+sumBelow f (suc n) = sumBelow f n + f n
+
+-- an operation on the table of switch w
+unfoldable pub onTable : ℕ → Operation → Bool
+onTable w o = usesTable o && eqb (switchOf o) w
+
+-- how many of the first n events use the table of switch w
+unfoldable pub tableEvents : List Event → ℕ → ℕ → ℕ
+tableEvents es n w = countBelow (λ k. onTable w (eventAt es k .operation)) n
+
+-- the pairs among n things
+unfoldable pub choose : ℕ → ℕ
+choose n = n * (n - 1) / 2
+
+-- the verdict on two operations, where h says whether the first event happens before the second
+unfoldable pub verdictOf : Operation → Operation → Bool → Verdict
+verdictOf o p h = cond (paired o p) (cond h Ordered (cond (commutes (effectOf o) (effectOf p)) Commuting Listed)) Unpaired
+
+-- a verdict counts for a kind
+abbrev pub counts : Kind → Verdict → Bool
+counts pairs Unpaired = false
+counts pairs Ordered = true
+counts pairs Commuting = true
+counts pairs Listed = true
+counts ordered Unpaired = false
+counts ordered Ordered = true
+counts ordered Commuting = false
+counts ordered Listed = false
+counts commuting Unpaired = false
+counts commuting Ordered = false
+counts commuting Commuting = true
+counts commuting Listed = false
+counts listed Unpaired = false
+counts listed Ordered = false
+counts listed Commuting = false
+counts listed Listed = true
+
+abbrev pub countOf : Kind → Counts → ℕ
+countOf pairs c = c .pairs
+countOf ordered c = c .ordered
+countOf commuting c = c .commuting
+countOf listed c = c .listed
+
+-- small enough to count on
+pub record Small (c : Counts) : Type 0 where
+  pub pairs-small : c .pairs ≤ 65535
+  pub ordered-small : c .ordered ≤ 65535
+  pub commuting-small : c .commuting ≤ 65535
+  pub listed-small : c .listed ≤ 65535
+
+-- the pairs of a kind whose lower event is i and whose higher is below n
+abbrev pub rowOf : Kind → List Event → ℕ → ℕ → List Pair
+rowOf k es i n = gather (cell (test k es) i) n

@@ -164,8 +164,8 @@ pairs-below es (suc n) h =
       where-more (test pairs es) n,
       pairs-with es n e,
       sum-at (λ w. choose (tableEvents es (suc n) w)) (λ w. choose (tableEvents es n w)) v (tableEvents es n v)
-      (λ w ne. ap choose (events-more es n w false (on-other es n w ne e) ∙ add-zero (tableEvents es n w)))
-      (ap choose (events-more es n v true (on-it es n v refl e)) ∙ choose-more (tableEvents es n v)) 16 (h n (omega arith)),
+          (λ w ne. ap choose (events-more es n w false (on-other es n w ne e) ∙ add-zero (tableEvents es n w)))
+          (ap choose (events-more es n v true (on-it es n v refl e)) ∙ choose-more (tableEvents es n v)) 16 (h n (omega arith)),
       ih,
     ))
     (λ e. omega (
@@ -173,7 +173,7 @@ pairs-below es (suc n) h =
       where-more (test pairs es) n,
       pairs-without es n e,
       sum-same (λ w. choose (tableEvents es (suc n) w)) (λ w. choose (tableEvents es n w))
-      (λ w. ap choose (events-more es n w false (not-on es n w e) ∙ add-zero (tableEvents es n w))) 16,
+          (λ w. ap choose (events-more es n w false (not-on es n w e) ∙ add-zero (tableEvents es n w))) 16,
       ih,
     ))
 

@@ -104,8 +104,8 @@ module _ (es : List Event) (ranges : EventsInRange es) (i j : ℕ) where
       let p = eventAt es j .operation in
       let pair = are-paired o p (record { switch = r .switch; first = r .first; second = r .second; lower-is = r .lower-is; higher-is = r .higher-is }) in
       let differ : commutes (effectOf o) (effectOf p) ≡ true → ⊥ =
-          λ e. r .apart (commutes-iff (tableEffect (r .first)) (tableEffect (r .second)) .0
-          (sym (ap₂ (λ (a b : Operation). commutes (effectOf a) (effectOf b)) (r .lower-is) (r .higher-is)) ∙ e) (r .table) (r .sorted)) in
+      λ e. r .apart (commutes-iff (tableEffect (r .first)) (tableEffect (r .second)) .0
+      (sym (ap₂ (λ (a b : Operation). commutes (effectOf a) (effectOf b)) (r .lower-is) (r .higher-is)) ∙ e) (r .table) (r .sorted)) in
       pairs-in (test listed es) (length es) i j .1 (
         r .lower,
         r .higher,

@@ -99,11 +99,11 @@ before-mem : (r x : Row) (xs : List Row) → RowBefore r xs → List·Memᴰ x x
 before-mem r x [] b m = absurd (List·Memᴰ·not-nil m)
 before-mem r x (y ∷ ys) b m = ⊎-elim (λ e. rw e (b .0)) (before-mem r x ys (b .1)) (List·Memᴰ·cases-cons m)
 
--- rows in order stand before none of their own
+-- no row stands before itself
 never-less : (r : Row) → rowOrder r r ≡ Less → ⊥
 never-less r e = equal≢less (sym (row-self r) ∙ e)
 
--- the first of rows in order is a member of rows in order with another first only if it stands after that
+-- no member of rows in order stands before the first of them
 first-after : (x y : Row) (ys : List Row) → RowBefore y ys → List·Memᴰ x (y ∷ ys) → rowOrder x y ≡ Less → ⊥
 first-after x y ys b m h =
     ⊎-elim (λ e. never-less y (rw e at h)) (λ n. never-less x (row-chain x y x h (before-mem y x ys b n))) (List·Memᴰ·cases-cons m)

@@ -1,23 +1,24 @@
 -- Rows as the tables of the switches: each table is in order, and each change of the rows is that change of one switch's table.
 -- Assumes nothing.
-use mathlib.Core.Path.{_≡_, refl, sym, _∙_, ap}
+use mathlib.Core.Path.{_≡_, refl, sym, _∙_, ap, subst}
 use mathlib.Core.Bool.{Bool, true, false, _&&_, _||_, cond}
 use mathlib.Core.Option.{some}
-use mathlib.Core.List.{List, [], _∷_}
+use mathlib.Core.Logic.{⊎-elim}
+use mathlib.Core.List.{List, [], _∷_, List·Memᴰ, List·Memᴰ·head, List·Memᴰ·tail, List·Memᴰ·cases-cons, List·Memᴰ·not-nil}
 use Prim.Native.Nat.{ℕ}
 use native.Mathlib.Omega.{arith}
 use lib.Dec.{eqb}
-use borrow.Author.Tests.{eqb-true}
+use borrow.Author.Tests.{eqb-true, eq-eqb}
 use Rattle.flow.specs.Entries.{thenBy, keyOrder, sameKey}
 use Rattle.flow.proofs.Booleans.{split, and-left, and-right, cond-same, cond-swap}
 use Rattle.flow.proofs.Orders.{number-equal}
 use Rattle.flow.proofs.Entries.{same-eq}
 use Rattle.table.specs.FlowTable.{Before, Sorted, get, insert, removeIf, assignIf, anyOf}
 use Rattle.table.proofs.TableLaws.{sorted-insert as sorted-insert-entry, get-insert, table-ext}
-use Rattle.rows.specs.Types.{Action, Key, Ordering, Less, Equal, Greater, Row}
-use Rattle.rows.specs.Rows.{rowOrder, RowBefore, SortedRows, tableOf, insertRowBy, insertRow, removeRows, assignRow, assignRows, anyRow, onSwitch}
+use Rattle.rows.specs.Types.{Action, Key, Entry, Ordering, Less, Equal, Greater, Row}
+use Rattle.rows.specs.Rows.{row, rowOrder, RowBefore, SortedRows, tableOf, insertRowBy, insertRow, removeRows, assignRow, assignRows, anyRow, onSwitch}
 use Rattle.rows.proofs.RowOrder.{slotOf, row-same, row-self, like-slot}
-use Rattle.rows.proofs.RowLaws.{sorted-insert}
+use Rattle.rows.proofs.RowLaws.{sorted-insert, same-rows}
 
 -- ---- the table of a switch is in order
 less-key : (r s : Row) → r .switch ≡ s .switch → rowOrder r s ≡ Less → keyOrder (r .entry .key) (s .entry .key) ≡ Less
@@ -39,6 +40,32 @@ sorted-table w (x ∷ xs) s = go (eqb w (x .switch)) refl (sorted-table w xs (s 
     go : (c : Bool) → eqb w (x .switch) ≡ c → Sorted (tableOf w xs) → Sorted (cond c (x .entry ∷ tableOf w xs) (tableOf w xs))
     go true e ih = (rw (eqb-true w (x .switch) e) (before-table x xs (s .0)), ih)
     go false e ih = ih
+
+-- ---- a row is there just if its entry is in the table of its switch; so the tables determine the rows
+pub row-entry : (x : Row) (rs : List Row) → List·Memᴰ x rs → List·Memᴰ (x .entry) (tableOf (x .switch) rs)
+row-entry x [] m = absurd (List·Memᴰ·not-nil m)
+row-entry x (y ∷ ys) m = ⊎-elim here (λ n. there (eqb (x .switch) (y .switch)) (row-entry x ys n)) (List·Memᴰ·cases-cons m)
+  where
+    here : x ≡ y → List·Memᴰ (x .entry) (tableOf (x .switch) (y ∷ ys))
+    here q = rw (eq-eqb (x .switch) (y .switch) (ap (λ r. r .switch) q)) (List·Memᴰ·head (ap (λ r. r .entry) q))
+
+    there : (b : Bool) → List·Memᴰ (x .entry) (tableOf (x .switch) ys) → List·Memᴰ (x .entry) (cond b (y .entry ∷ tableOf (x .switch) ys) (tableOf (x .switch) ys))
+    there true n = List·Memᴰ·tail n
+    there false n = n
+
+pub entry-row : (w : ℕ) (e : Entry) (rs : List Row) → List·Memᴰ e (tableOf w rs) → List·Memᴰ (row w e) rs
+entry-row w e [] m = absurd (List·Memᴰ·not-nil m)
+entry-row w e (y ∷ ys) m = go (eqb w (y .switch)) refl m (entry-row w e ys)
+  where
+    go : (b : Bool) → eqb w (y .switch) ≡ b → List·Memᴰ e (cond b (y .entry ∷ tableOf w ys) (tableOf w ys)) → (List·Memᴰ e (tableOf w ys) → List·Memᴰ (row w e) ys) → List·Memᴰ (row w e) (y ∷ ys)
+    go true u n ih = ⊎-elim (λ q. let p = eqb-true w (y .switch) u in List·Memᴰ·head (λ i. row (p i) (q i))) (λ k. List·Memᴰ·tail (ih k)) (List·Memᴰ·cases-cons n)
+    go false u n ih = List·Memᴰ·tail (ih n)
+
+pub same-tables : (rs ss : List Row) → SortedRows rs → SortedRows ss → ((w : ℕ) → tableOf w rs ≡ tableOf w ss) → rs ≡ ss
+same-tables rs ss s t h =
+    same-rows rs ss s t
+    (λ x m. entry-row (x .switch) (x .entry) ss (subst (List·Memᴰ (x .entry)) (h (x .switch)) (row-entry x rs m)))
+    (λ x m. entry-row (x .switch) (x .entry) rs (subst (List·Memᴰ (x .entry)) (sym (h (x .switch))) (row-entry x ss m)))
 
 -- ---- a row put in
 greater≢equal : Greater ≡ Equal → ⊥

@@ -1,9 +1,9 @@
 use mathlib.Core.Path.{sym, _∙_}
 use native.Mathlib.Omega.{arith}
+use borrow.Author.Needs.{needs}
 use denote.Ref.{now}
 use Rattle.digits.proofs.Keys.{key-room, keyed-other, keyed-read}
 use Rattle.fields.specs.Print.{actKey}
-use borrow.Author.Needs.{needs}
 use Rattle.fields.proofs.entry.action_at.Statement.{statement}
 use Rattle.fields.proofs.entry.action_at.Tie as tie
 

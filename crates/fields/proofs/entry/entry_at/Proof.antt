@@ -1,13 +1,10 @@
 use mathlib.Core.Path.{sym}
+use borrow.Author.Needs.{needs}
 use Rattle.digits.specs.Reading.{andThen, mapped, both}
 use Rattle.digits.proofs.Readers.{seen}
 use Rattle.fields.specs.Read.{readEntry, asKey, asAction}
-use borrow.Author.Needs.{needs}
 use Rattle.fields.proofs.entry.entry_at.Statement.{statement}
 use Rattle.fields.proofs.entry.entry_at.Tie as tie
-
-enum-told : tie.Need-enum-told
-enum-told c = search needs
 
 returns : tie.Need-returns
 unfolding readEntry mapped both andThen
@@ -34,8 +31,7 @@ returns-3 c =
 pub entry-at-spec : {M : Type 1} → statement M
 entry-at-spec =
     tie.close
-    (tie.spec (λ c κs. search needs) (λ c. search needs)
-    enum-told
+    (tie.spec (λ c κs. search needs) (λ c. search needs) (λ c. search needs)
     returns (λ c κs. search needs) (λ c. search needs) (λ c. search needs)
     returns-2
     returns-3)

@@ -1,17 +1,14 @@
 use mathlib.Core.Path.{sym}
 use native.Mathlib.Omega.{arith}
+use borrow.Author.Needs.{needs}
 use Rattle.digits.specs.Reading.{andThen, mapped, both}
 use Rattle.digits.specs.Number.{asNumber}
 use Rattle.digits.proofs.Readers.{seen}
 use Rattle.fields.specs.Print.{prioKey}
 use Rattle.fields.specs.Read.{readKey, asMatch}
 use Rattle.fields.proofs.Steps.{keyed-most}
-use borrow.Author.Needs.{needs}
 use Rattle.fields.proofs.entry.key_at.Statement.{statement}
 use Rattle.fields.proofs.entry.key_at.Tie as tie
-
-enum-told : tie.Need-enum-told
-enum-told c = search needs
 
 returns : tie.Need-returns
 unfolding readKey mapped both andThen
@@ -27,7 +24,9 @@ returns-2 c =
     ))
 
 cast-t13 : tie.Need-cast-t13
-cast-t13 c = omega (arith, keyed-most _ _ _ _ _ (omega arith) prioKey (seen asNumber (c .before .before .before .before .before .before .before .number-at .ensures) (c .before .before .before .before .before .priority .given .1)))
+cast-t13 c =
+    let p = c .before .before .before .before .before in
+    omega (arith, keyed-most _ _ _ _ _ (omega arith) prioKey (seen asNumber (p .before .before .number-at .ensures) (p .priority .given .1)))
 
 returns-3 : tie.Need-returns-3
 unfolding readKey mapped both andThen
@@ -41,8 +40,7 @@ returns-3 c =
 pub key-at-spec : {M : Type 1} → statement M
 key-at-spec =
     tie.close
-    (tie.spec (λ c. search needs) (λ c κs. search needs) (λ c. search needs)
-    enum-told
+    (tie.spec (λ c. search needs) (λ c κs. search needs) (λ c. search needs) (λ c. search needs)
     returns (λ c κs. search needs) (λ c. search needs) (λ c. search needs)
     returns-2
     cast-t13

@@ -1,11 +1,8 @@
+use borrow.Author.Needs.{needs}
 use Rattle.digits.proofs.Writing.{put-then}
 use Rattle.fields.specs.Print.{printAction}
-use borrow.Author.Needs.{needs}
 use Rattle.fields.proofs.entry.put_action.Statement.{statement}
 use Rattle.fields.proofs.entry.put_action.Tie as tie
-
-enum-told : tie.Need-enum-told
-enum-told c = search needs
 
 returns : tie.Need-returns
 unfolding printAction
@@ -17,13 +14,14 @@ returns-2 c = rw (c .before .before .before .before .before .enum-told2 .given .
 
 returns-3 : tie.Need-returns-3
 unfolding printAction
-returns-3 c = rw (c .before .before .before .before .before .before .before .before .before .before .a .given .1) (put-then (c .before .before .before .before .before .before .put-bytes3 .ensures) (c .before .before .put-number .ensures))
+returns-3 c =
+    let out = c .before .before .before .before .before .before in
+    rw (out .before .before .before .before .a .given .1) (put-then (out .put-bytes3 .ensures) (c .before .before .put-number .ensures))
 
 pub put-action-spec : {M : Type 1} → statement M
 put-action-spec =
     tie.close
-    (tie.spec
-    enum-told (λ c. search needs) (λ c κs. search needs) (λ c. search needs) (λ c. search needs) (λ c κs. search needs) (λ c. search needs) (λ c. search needs) (λ c κs. search needs) (λ c. search needs) (λ c κs. search needs) (λ c. search needs)
+    (tie.spec (λ c. search needs) (λ c. search needs) (λ c κs. search needs) (λ c. search needs) (λ c. search needs) (λ c κs. search needs) (λ c. search needs) (λ c. search needs) (λ c κs. search needs) (λ c. search needs) (λ c κs. search needs) (λ c. search needs)
     returns (λ c. search needs)
     returns-2 (λ c. search needs)
     returns-3)

@@ -1,20 +1,27 @@
 use native.Mathlib.Omega.{arith}
-use Rattle.digits.proofs.Writing.{put-then}
-use Rattle.fields.proofs.Lengths.{key-length}
-use Rattle.fields.specs.Print.{printEntry}
 use borrow.Author.Needs.{needs}
+use Rattle.digits.proofs.Writing.{put-then}
+use Rattle.fields.specs.Print.{printEntry}
+use Rattle.fields.proofs.Lengths.{key-length}
 use Rattle.fields.proofs.entry.put_entry.Statement.{statement}
 use Rattle.fields.proofs.entry.put_entry.Tie as tie
 
 put-bytes-requires : tie.Need-put-bytes-requires
-put-bytes-requires c κs = omega (arith, c .before .before .before .before .put-key .ensures .after, key-length (c .before .before .before .before .before .before .before .before .args .e .key))
+put-bytes-requires c κs =
+    let key = c .before .before .before .before in
+    omega (arith, key .put-key .ensures .after, key-length (key .before .before .before .before .args .e .key))
 
 put-action-requires : tie.Need-put-action-requires
-put-action-requires c κs = omega (arith, c .before .before .before .put-bytes .ensures .after, c .before .before .before .before .before .before .before .before .put-key .ensures .after, key-length (c .before .before .before .before .before .before .before .before .before .before .before .before .args .e .key))
+put-action-requires c κs =
+    let act = c .before .before .before in
+    let key = act .before .before .before .before .before in
+    omega (arith, key .put-key .ensures .after, key-length (key .before .before .before .before .args .e .key), act .put-bytes .ensures .after)
 
 returns : tie.Need-returns
 unfolding printEntry
-returns c = put-then (c .before .before .before .before .before .before .before .before .before .before .before .put-key .ensures) (put-then (c .before .before .before .before .before .before .put-bytes .ensures) (c .before .before .put-action .ensures))
+returns c =
+    let act = c .before .before .before .before .before .before in
+    put-then (act .before .before .before .before .before .put-key .ensures) (put-then (act .put-bytes .ensures) (c .before .before .put-action .ensures))
 
 pub put-entry-spec : {M : Type 1} → statement M
 put-entry-spec =

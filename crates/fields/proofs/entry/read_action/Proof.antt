@@ -1,14 +1,14 @@
-use Rattle.digits.specs.Reading.{mapped}
-use Rattle.fields.specs.Read.{wordOr, readAction}
-use Rattle.fields.proofs.Steps.{keyed-most}
 use mathlib.Core.Path.{sym, _∙_}
 use native.Mathlib.Omega.{arith}
+use borrow.Author.Needs.{needs}
 use denote.Ref.{now}
+use Rattle.digits.specs.Reading.{mapped}
 use Rattle.digits.specs.Number.{asNumber}
 use Rattle.digits.proofs.Readers.{seen}
 use Rattle.digits.proofs.Keys.{key-room}
+use Rattle.fields.specs.Read.{wordOr, readAction}
 use Rattle.fields.specs.Print.{dropWord, controllerWord, outKey}
-use borrow.Author.Needs.{needs}
+use Rattle.fields.proofs.Steps.{keyed-most}
 use Rattle.fields.proofs.entry.read_action.Statement.{statement}
 use Rattle.fields.proofs.entry.read_action.Tie as tie
 
@@ -28,21 +28,37 @@ add-t17 c =
 
 returns-2 : tie.Need-returns-2
 unfolding readAction wordOr
-returns-2 c = sym (rw (sym (c .before .before .before .before .starts-with .ensures) ∙ c .before .before .before .if1 .left, sym (c .before .starts-with2 .ensures) ∙ c .if2 .taken))
-
-enum-told : tie.Need-enum-told
-enum-told c = search needs
+returns-2 c =
+    let drop = c .before .before .before in
+    sym (rw (
+      sym (drop .before .starts-with .ensures) ∙ drop .if1 .left,
+      sym (c .before .starts-with2 .ensures) ∙ c .if2 .taken,
+    ))
 
 returns-3 : tie.Need-returns-3
 unfolding readAction wordOr mapped
-returns-3 c = sym (rw (sym (c .before .before .before .before .before .before .before .before .starts-with .ensures) ∙ c .before .before .before .before .before .before .before .if1 .left, sym (c .before .before .before .before .before .starts-with2 .ensures) ∙ c .before .before .before .before .if2 .left, seen asNumber (c .before .before .number-at .ensures) (c .enum-told .given .1)))
+returns-3 c =
+    let ctl = c .before .before .before .before in
+    let drop = ctl .before .before .before in
+    sym (rw (
+      sym (drop .before .starts-with .ensures) ∙ drop .if1 .left,
+      sym (ctl .before .starts-with2 .ensures) ∙ ctl .if2 .left,
+      seen asNumber (c .before .before .number-at .ensures) (c .enum-told .given .1),
+    ))
 
 cast-t21 : tie.Need-cast-t21
 cast-t21 c = omega (arith, keyed-most _ _ _ _ _ (omega arith) outKey (seen asNumber (c .before .before .before .number-at .ensures) (c .before .value .given .1)))
 
 returns-4 : tie.Need-returns-4
 unfolding readAction wordOr mapped
-returns-4 c = sym (rw (sym (c .before .before .before .before .before .before .before .before .before .starts-with .ensures) ∙ c .before .before .before .before .before .before .before .before .if1 .left, sym (c .before .before .before .before .before .before .starts-with2 .ensures) ∙ c .before .before .before .before .before .if2 .left, seen asNumber (c .before .before .before .number-at .ensures) (c .before .value .given .1)))
+returns-4 c =
+    let ctl = c .before .before .before .before .before in
+    let drop = ctl .before .before .before in
+    sym (rw (
+      sym (drop .before .starts-with .ensures) ∙ drop .if1 .left,
+      sym (ctl .before .starts-with2 .ensures) ∙ ctl .if2 .left,
+      seen asNumber (c .before .before .before .number-at .ensures) (c .before .value .given .1),
+    ))
 
 pub read-action-spec : {M : Type 1} → statement M
 read-action-spec =
@@ -51,8 +67,7 @@ read-action-spec =
     add-t12
     returns (λ c. search needs) (λ c κs. search needs)
     add-t17
-    returns-2 (λ c. search needs) (λ c κs. search needs) (λ c. search needs)
-    enum-told
+    returns-2 (λ c. search needs) (λ c κs. search needs) (λ c. search needs) (λ c. search needs)
     returns-3
     cast-t21
     returns-4)

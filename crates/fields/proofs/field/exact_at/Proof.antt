@@ -1,8 +1,8 @@
 use mathlib.Core.Path.{sym, _∙_}
 use native.Mathlib.Omega.{arith}
+use borrow.Author.Needs.{needs}
 use denote.Ref.{now}
 use Rattle.digits.proofs.Keys.{key-room, keyed-other, keyed-read}
-use borrow.Author.Needs.{needs}
 use Rattle.fields.proofs.field.exact_at.Statement.{statement}
 use Rattle.fields.proofs.field.exact_at.Tie as tie
 

@@ -1,13 +1,10 @@
 use mathlib.Core.Path.{sym}
+use borrow.Author.Needs.{needs}
 use Rattle.digits.specs.Reading.{andThen, mapped, both}
 use Rattle.digits.proofs.Readers.{seen}
 use Rattle.fields.specs.Read.{readMatch, asExact, asPrefix}
-use borrow.Author.Needs.{needs}
 use Rattle.fields.proofs.matching.match_at.Statement.{statement}
 use Rattle.fields.proofs.matching.match_at.Tie as tie
-
-enum-told : tie.Need-enum-told
-enum-told c = search needs
 
 returns : tie.Need-returns
 unfolding readMatch mapped both andThen
@@ -98,8 +95,7 @@ returns-7 c =
 pub match-at-spec : {M : Type 1} → statement M
 match-at-spec =
     tie.close
-    (tie.spec (λ c. search needs) (λ c κs. search needs) (λ c. search needs)
-    enum-told
+    (tie.spec (λ c. search needs) (λ c κs. search needs) (λ c. search needs) (λ c. search needs)
     returns (λ c. search needs) (λ c κs. search needs) (λ c. search needs) (λ c. search needs)
     returns-2 (λ c. search needs) (λ c κs. search needs) (λ c. search needs) (λ c. search needs)
     returns-3 (λ c. search needs) (λ c κs. search needs) (λ c. search needs) (λ c. search needs)

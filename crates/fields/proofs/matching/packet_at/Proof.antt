@@ -1,17 +1,14 @@
 use mathlib.Core.Path.{sym}
 use native.Mathlib.Omega.{arith}
+use borrow.Author.Needs.{needs}
 use Rattle.digits.specs.Reading.{andThen, mapped, both}
 use Rattle.digits.specs.Number.{asNumber}
 use Rattle.digits.proofs.Readers.{seen}
 use Rattle.fields.specs.Print.{portKey, protoKey, sportKey, dportKey}
 use Rattle.fields.specs.Read.{readPacket}
 use Rattle.fields.proofs.Steps.{keyed-most}
-use borrow.Author.Needs.{needs}
 use Rattle.fields.proofs.matching.packet_at.Statement.{statement}
 use Rattle.fields.proofs.matching.packet_at.Tie as tie
-
-enum-told : tie.Need-enum-told
-enum-told c = search needs
 
 returns : tie.Need-returns
 unfolding readPacket mapped both andThen
@@ -83,16 +80,24 @@ returns-6 c =
     ))
 
 cast-t40 : tie.Need-cast-t40
-cast-t40 c = omega (arith, keyed-most _ _ _ _ _ (omega arith) portKey (seen asNumber (c .before .before .before .before .before .before .before .before .before .before .before .before .before .before .before .before .before .before .before .before .before .before .before .before .before .before .before .before .number-at .ensures) (c .before .before .before .before .before .before .before .before .before .before .before .before .before .before .before .before .before .before .before .before .before .before .before .before .before .before .port .given .1)))
+cast-t40 c =
+    let p = c .before .before .before .before .before .before .before .before .before .before .before .before .before .before .before .before .before .before .before .before .before .before .before .before .before .before in
+    omega (arith, keyed-most _ _ _ _ _ (omega arith) portKey (seen asNumber (p .before .before .number-at .ensures) (p .port .given .1)))
 
 cast-t41 : tie.Need-cast-t41
-cast-t41 c = omega (arith, keyed-most _ _ _ _ _ (omega arith) protoKey (seen asNumber (c .before .before .before .before .before .before .before .before .before .before .before .before .before .number-at2 .ensures) (c .before .before .before .before .before .before .before .before .before .before .before .proto .given .1)))
+cast-t41 c =
+    let p = c .before .before .before .before .before .before .before .before .before .before .before in
+    omega (arith, keyed-most _ _ _ _ _ (omega arith) protoKey (seen asNumber (p .before .before .number-at2 .ensures) (p .proto .given .1)))
 
 cast-t42 : tie.Need-cast-t42
-cast-t42 c = omega (arith, keyed-most _ _ _ _ _ (omega arith) sportKey (seen asNumber (c .before .before .before .before .before .before .before .before .number-at3 .ensures) (c .before .before .before .before .before .before .sport .given .1)))
+cast-t42 c =
+    let p = c .before .before .before .before .before .before in
+    omega (arith, keyed-most _ _ _ _ _ (omega arith) sportKey (seen asNumber (p .before .before .number-at3 .ensures) (p .sport .given .1)))
 
 cast-t43 : tie.Need-cast-t43
-cast-t43 c = omega (arith, keyed-most _ _ _ _ _ (omega arith) dportKey (seen asNumber (c .before .before .before .number-at4 .ensures) (c .before .dport .given .1)))
+cast-t43 c =
+    let p = c .before in
+    omega (arith, keyed-most _ _ _ _ _ (omega arith) dportKey (seen asNumber (p .before .before .number-at4 .ensures) (p .dport .given .1)))
 
 returns-7 : tie.Need-returns-7
 unfolding readPacket mapped both andThen
@@ -114,8 +119,7 @@ returns-7 c =
 pub packet-at-spec : {M : Type 1} → statement M
 packet-at-spec =
     tie.close
-    (tie.spec (λ c. search needs) (λ c κs. search needs) (λ c. search needs)
-    enum-told
+    (tie.spec (λ c. search needs) (λ c κs. search needs) (λ c. search needs) (λ c. search needs)
     returns (λ c. search needs) (λ c κs. search needs) (λ c. search needs) (λ c. search needs)
     returns-2 (λ c. search needs) (λ c κs. search needs) (λ c. search needs) (λ c. search needs)
     returns-3 (λ c. search needs) (λ c κs. search needs) (λ c. search needs) (λ c. search needs)

@@ -88,10 +88,10 @@ returns c =
     let size : length (eventsOf t) ≡ t .len = length-events t (omega (arith, s .pre .0)) in
     let e : l .i ≡ t .len = omega arith in (
       counted (eventsOf t) (l .sum)
-      (λ k. l .inv .2 k ∙ ap (λ (m : ℕ). length (rowsBelow k (eventsOf t) (t .len) m)) e ∙ ap length (all-rows k (eventsOf t) (t .len)) ∙ ap (λ (m : ℕ). length (ofKind k (eventsOf t) m)) (sym size)),
+          (λ k. l .inv .2 k ∙ ap (λ (m : ℕ). length (rowsBelow k (eventsOf t) (t .len) m)) e ∙ ap length (all-rows k (eventsOf t) (t .len)) ∙ ap (λ (m : ℕ). length (ofKind k (eventsOf t) m)) (sym size)),
       l .inv .3
-      ∙ ap (λ (m : ℕ). sets (s .args .list .now) 0 (pairBytes (rowsBelow listed (eventsOf t) (t .len) m))) e
-      ∙ ap (λ (ps : List Pair). sets (s .args .list .now) 0 (pairBytes ps)) (all-rows listed (eventsOf t) (t .len) ∙ ap (ofKind listed (eventsOf t)) (sym size)),
+          ∙ ap (λ (m : ℕ). sets (s .args .list .now) 0 (pairBytes (rowsBelow listed (eventsOf t) (t .len) m))) e
+          ∙ ap (λ (ps : List Pair). sets (s .args .list .now) 0 (pairBytes ps)) (all-rows listed (eventsOf t) (t .len) ∙ ap (ofKind listed (eventsOf t)) (sym size)),
     )
 
 pub scan-spec : {M : Type 1} → statement M

@@ -133,8 +133,8 @@ loop-again c =
     let es = eventsOf t in
     let before-is = c .before .before .before .before .before .before .before .is-before .ensures ∙ s .pre .1 .0 i (l .j) in
     let verdict =
-        c .before .before .before .before .before .before .verdict-of .ensures
-        ∙ ap₂ (λ (x y : Event). verdictOf (x .operation) (y .operation) (c .before .before .before .before .before .before .before .is-before .result)) (sym (event-at t i (omega (arith, s .pre .0)))) (sym (event-at t (l .j) (omega arith))) in (
+    c .before .before .before .before .before .before .verdict-of .ensures
+    ∙ ap₂ (λ (x y : Event). verdictOf (x .operation) (y .operation) (c .before .before .before .before .before .before .before .is-before .result)) (sym (event-at t i (omega (arith, s .pre .0)))) (sym (event-at t (l .j) (omega arith))) in (
       omega arith,
       omega arith,
       l .inv .2,

@@ -32,19 +32,20 @@ loop-again : tie.Need-loop-again Inv-loop μ-loop
 loop-again c =
     let m = c .before .before .before .before .loop in
     let s = c .before .before .before .before .before in
-    let n = next (s .args .t1 .rows) (s .args .t1 .len) (m .i) _ (c .before .before .before .loop-test .taken) (m .inv .2) in
     ⊎-elim
     (λ w. rw (w .2) (
       omega (arith, w .1 .ensures .1),
       search needs,
       m .inv .2,
-      sym (ap (seenRows _ (m .answer)) n ∙ row-fits _ _ _ _ _ (sym (c .before .passes .ensures) ∙ w .0 .taken) (w .1 .ensures .0)) ∙ m .inv .3,
+      sym (ap (seenRows _ (m .answer)) (next (s .args .t1 .rows) (s .args .t1 .len) (m .i) _ (c .before .before .before .loop-test .taken) (m .inv .2))
+          ∙ row-fits _ _ _ _ _ (sym (c .before .passes .ensures) ∙ w .0 .taken) (w .1 .ensures .0)) ∙ m .inv .3,
     ))
     (λ w. rw (w .1) (
       search needs,
       search needs,
       m .inv .2,
-      sym (ap (seenRows _ (m .answer)) n ∙ row-fits-not _ _ _ _ (sym (c .before .passes .ensures) ∙ w .0 .left)) ∙ m .inv .3,
+      sym (ap (seenRows _ (m .answer)) (next (s .args .t1 .rows) (s .args .t1 .len) (m .i) _ (c .before .before .before .loop-test .taken) (m .inv .2))
+          ∙ row-fits-not _ _ _ _ (sym (c .before .passes .ensures) ∙ w .0 .left)) ∙ m .inv .3,
     ))
     (c .if1 .came)
 

@@ -1,10 +1,10 @@
 use mathlib.Core.Path.{_≡_, refl}
+use mathlib.Core.Bool.{not}
 use mathlib.Core.List.{_++_}
 use Prim.Native.Nat.{_+_, _-_, _≤_}
 use native.Mathlib.Omega.{arith}
 use lib.ListN.{take, drop, length, length-set}
 use borrow.Author.Needs.{needs}
-use mathlib.Core.Bool.{not}
 use Rattle.rows.specs.Rows.{onSwitch, passes, removeRows}
 use Rattle.rows.proofs.Pass.{length-mapped, finished}
 use Rattle.rows.proofs.Turns.{bit-le, removed, none-removed}

@@ -1,1 +1,7 @@
 pub mod WordLaws
+pub mod TokenListLaws
+pub mod TokenListFormat
+pub mod LineLaws
+pub mod OperationFormat
+pub mod LineFormat
+pub mod EventRanges

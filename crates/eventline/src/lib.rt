@@ -1,4 +1,9 @@
 // A line of a trace as an event.
-pub mod words;
+pub mod clear; // no address bit past its prefix
+pub mod line; // the whole line
+pub mod operation; // the switch and the operation's own fields
+pub mod tokens; // `in` and `out`
+pub mod words; // `do`
 
-pub use words::Word;
+pub use line::EventRead;
+pub use line::event_line;

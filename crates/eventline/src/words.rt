@@ -1,7 +1,9 @@
 // The word of `do`, with the space that ends it.
 use digits::starts_with;
 ghost use mathlib.Core.Path.{_≡_};
+ghost use Rattle.digits.specs.Reading.{keyed};
 ghost use Rattle.eventline.specs.Words.{wordOr, readWord, asWord};
+ghost use Rattle.eventline.specs.EventLine.{doKey};
 
 pub enum Word {
     Other,
@@ -49,4 +51,14 @@ pub fn read_word(s: &[u8], at: usize) -> WordRead
     let r = word_or(s, at, b"msg ", Word::Message, r);
     let r = word_or(s, at, b"bar ", Word::Barrier, r);
     word_or(s, at, b"oth ", Word::Other, r)
+}
+
+// ` do=`, and then a word.
+pub fn word_at(s: &[u8], at: usize) -> WordRead
+    ensures { λ r. ⌜ asWord r ≡ keyed doKey readWord (now (s .entry)) at ⌝ }
+{
+    if starts_with(s, at, b" do=") {
+        return read_word(s, at + 4);
+    }
+    WordRead::Bad
 }

@@ -10,7 +10,7 @@ use lib.Dec.{eqb, ltb}
 use lib.ListN.{length}
 use borrow.Author.Tests.{eqb-true, eq-eqb, ne-eqb, ltb-true, ltb-false, lt-ltb, le-ltb}
 use Rattle.orders.specs.Orders.{run, replyIn, from, has, stands, IsOrderOf}
-use Rattle.flow.proofs.Booleans.{split, cond-swap}
+use Rattle.flow.proofs.Booleans.{split, or-cases, cond-swap}
 
 -- every number of a list
 abbrev pub All : (ℕ → Type 0) → List ℕ → Type 0
@@ -225,6 +225,22 @@ one-way i j (x ∷ o) n a b h k = go (eqb i x) refl (eqb j x) refl a b h k (one-
     go true e false f a b h k ih = let m = has-count i o (stands-has j i o k .1) in omega arith
     go false e true f a b h k ih = let m = has-count j o (stands-has i j o h .1) in omega arith
     go false e false f a b h k ih = ih a b h k
+
+-- so in an order of the events
+pub not-both : {n : ℕ} {o : List ℕ} → IsOrderOf n o → (i j : ℕ) → (i ≡ j → ⊥) → stands i j o ≡ true → stands j i o ≡ true → ⊥
+not-both {o = o} p i j d h k = one-way i j o d (once p i) (once p j) h k
+
+-- an event that stands before itself stands twice, and in an order of the events none does
+stands-twice : (i : ℕ) (o : List ℕ) → stands i i o ≡ true → 2 ≤ count i o
+stands-twice i [] h = absurd (false≢true h)
+stands-twice i (x ∷ o) h = go (eqb i x) h (stands-twice i o)
+  where
+    go : (b : Bool) → ((b && has i o) || stands i i o) ≡ true → (stands i i o ≡ true → 2 ≤ count i o) → 2 ≤ cond b (suc (count i o)) (count i o)
+    go true k ih = or-cases (has i o) (stands i i o) k (λ e. let m = has-count i o e in omega arith) (λ e. let m = ih e in omega arith)
+    go false k ih = ih k
+
+pub not-twice : {n : ℕ} {o : List ℕ} → IsOrderOf n o → (i : ℕ) → stands i i o ≡ false
+not-twice {o = o} p i = split (stands i i o) (λ e. absurd (omega (arith, stands-twice i o e, once p i))) (λ e. e)
 
 all-has : (P : ℕ → Type 0) (o : List ℕ) → ((y : ℕ) → has y o ≡ true → P y) → All P o
 all-has P [] h = tt

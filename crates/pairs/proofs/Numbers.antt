@@ -1,14 +1,14 @@
 -- The counts: pairs = ordered + commuting + listed (`counts-add`); n(n-1)/2 pairs for n table events of a switch, summed over the 16
 -- switches (`pairs-count`). Assumes nothing.
-use Prim.Native.Nat.{ℕ, zero, suc, _+_, _-_, _*_, _/_, _<_, _≤_}
+use Prim.Native.Nat.{ℕ, zero, suc, _+_, _-_, _*_, _<_, _≤_}
 use native.Mathlib.Nat.{suc-mul, mul-suc, add-zero}
 use native.Mathlib.Decide.{ℕ-discrete}
 use native.Mathlib.Numerals.{add-one}
 use native.Mathlib.Omega.{arith}
 use mathlib.Core.Path.{_≡_, refl, sym, ap, _∙_}
 use mathlib.Core.Bool.{Bool, true, false, not, _&&_}
-use mathlib.Core.List.{List, []}
-use lib.Dec.{ltb, eqb}
+use mathlib.Core.List.{List}
+use lib.Dec.{ltb}
 use lib.ListN.{length, length-append}
 use borrow.Author.Tests.{lt-ltb, eq-eqb, ne-eqb}
 use Rattle.flow.proofs.Booleans.{split}
@@ -17,7 +17,7 @@ use Rattle.commute.specs.Commuting.{commutes}
 use Rattle.orders.specs.Tables.{usesTable, switchOf, paired}
 use Rattle.events.specs.Events.{eventAt}
 use Rattle.causality.specs.Causality.{before}
-use Rattle.pairs.specs.Types.{Event, Operation}
+use Rattle.pairs.specs.Types.{Event}
 use Rattle.pairs.specs.List.{pairs, ordered, commuting, listed, test, gather, cell, pairsWhere, ofKind, count}
 use Rattle.pairs.specs.Counting.{size, countBelow, sumBelow, onTable, tableEvents, choose}
 use Rattle.pairs.proofs.PairLaws.{size-only, row-start}

@@ -1,15 +1,17 @@
 -- Laws of the pairs, of their counts and of their bytes. Assumes nothing.
 use Prim.Native.Nat.{ℕ, zero, suc, _+_, _*_, _<_, _≤_}
-use native.Mathlib.Nat.{suc-mul, suc-add, add-suc, add-zero}
+use native.Mathlib.Nat.{suc-mul}
 use native.Mathlib.Numerals.{add-one}
 use native.Mathlib.Omega.{arith}
 use mathlib.Core.Path.{_≡_, refl, sym, ap, _∙_}
 use mathlib.Core.Bool.{Bool, true, false, not, _&&_, cond}
 use mathlib.Core.List.{List, [], _∷_, _++_}
 use lib.Dec.{ltb}
-use lib.ListN.{length, length-append, set}
+use lib.ListN.{length, length-append}
 use lib.Seq.{sets}
 use borrow.Author.Tests.{lt-ltb, le-ltb}
+use Rattle.digits.specs.Print.{Put}
+use Rattle.digits.proofs.Writing.{put-then}
 use Rattle.table.specs.FlowTable.{Effect, idle, effectOf}
 use Rattle.commute.specs.Commuting.{commutes}
 use Rattle.commute.proofs.Theorems.{commutes-sym, idle-commutes}
@@ -66,13 +68,12 @@ pub bytes-length : (a : List Pair) → length (pairBytes a) ≡ 2 * length a
 bytes-length [] = refl
 bytes-length (p ∷ a) = omega (arith, bytes-length a)
 
-sets-append : (a b l : List ℕ) (i : ℕ) → sets (sets l i a) (i + length a) b ≡ sets l i (a ++ b)
-sets-append [] b l i = rw add-zero
-sets-append (x ∷ a) b l i = rw (add-suc i (length a), ← suc-add i (length a)) (sets-append a b (set l i x) (suc i))
-
 -- the bytes of a list of pairs, and then those of another
 write-more : (a b : List Pair) (l : List ℕ) (s at : ℕ) → at ≡ s + 2 * length a → sets (sets l s (pairBytes a)) at (pairBytes b) ≡ sets l s (pairBytes (a ++ b))
-write-more a b l s at e = simp (bytes-append, e, sym (bytes-length a), sets-append)
+write-more a b l s at e =
+    let p : Put (pairBytes a) s l at (sets l s (pairBytes a)) = record { after = e ∙ ap (λ (n : ℕ). s + n) (sym (bytes-length a)); bytes = refl } in
+    let q : Put (pairBytes b) at (sets l s (pairBytes a)) (at + length (pairBytes b)) (sets (sets l s (pairBytes a)) at (pairBytes b)) = record { after = refl; bytes = refl } in
+    put-then p q .bytes ∙ ap (sets l s) (sym (bytes-append a b))
 
 -- ---- arms of a match on a verdict
 pub counted-arm : (k : Kind) {x : ℕ} (y : ℕ) {v form : Verdict} → v ≡ form → x ≡ y + size (counts k form) → x ≡ y + size (counts k v)

@@ -2,14 +2,14 @@
 -- (`list-is-orders-listed`). Assumes nothing.
 use Prim.Native.Nat.{ℕ, _<_}
 use native.Mathlib.Omega.{arith}
-use mathlib.Core.Path.{_≡_, refl, sym, ap, ap₂, subst, _∙_}
+use mathlib.Core.Path.{_≡_, refl, sym, ap, ap₂, _∙_}
 use mathlib.Core.Logic.{_↔_}
 use mathlib.Core.Bool.{Bool, true, false, not, _&&_, true≢false}
 use mathlib.Core.List.{List, List·Memᴰ}
 use lib.Dec.{eqb}
 use lib.ListN.{length}
-use borrow.Author.Tests.{eq-eqb, eqb-true}
-use Rattle.flow.proofs.Booleans.{split, and-left, and-right, and-intro}
+use borrow.Author.Tests.{eq-eqb, eqb-true, not-true}
+use Rattle.flow.proofs.Booleans.{and-left, and-right, and-intro}
 use Rattle.table.specs.FlowTable.{Table, effectOf, tableEffect}
 use Rattle.commute.specs.Commuting.{Agree, commutes, witness}
 use Rattle.commute.proofs.Theorems.{told, commutes-iff}
@@ -57,13 +57,9 @@ are-paired : (o p : Operation) → Paired o p → paired o p ≡ true
 unfolding paired
 are-paired o p h = rw (h .lower-is, h .higher-is) (eq-eqb (h .switch) (h .switch) refl)
 
-not-true : (b : Bool) → (b ≡ true → ⊥) → not b ≡ true
-not-true true h = absurd (h refl)
-not-true false h = refl
-
-true-not : (b : Bool) → not b ≡ true → b ≡ false
-true-not true h = sym h
-true-not false h = refl
+refuted : (b : Bool) → (b ≡ true → ⊥) → not b ≡ true
+refuted true h = absurd (h refl)
+refuted false h = refl
 
 agree-as : {o p a b : Operation} {t : Table} → o ≡ a → p ≡ b → Agree (effectOf a) (effectOf b) t → Agree (effectOf o) (effectOf p) t
 agree-as e f g = rw (e, f) g
@@ -78,8 +74,8 @@ module _ (es : List Event) (ranges : EventsInRange es) (i j : ℕ) where
       let l : i < j = h .0 in
       let rest = and-right (paired o p) (not (before es i j) && not (commutes (effectOf o) (effectOf p))) (h .2) in
       let both = paired-are o p (and-left (paired o p) (not (before es i j) && not (commutes (effectOf o) (effectOf p))) (h .2)) in
-      let free = true-not (before es i j) (and-left (not (before es i j)) (not (commutes (effectOf o) (effectOf p))) rest) in
-      let differ = true-not (commutes (effectOf o) (effectOf p)) (and-right (not (before es i j)) (not (commutes (effectOf o) (effectOf p))) rest) in
+      let free = not-true (before es i j) (and-left (not (before es i j)) (not (commutes (effectOf o) (effectOf p))) rest) in
+      let differ = not-true (commutes (effectOf o) (effectOf p)) (and-right (not (before es i j)) (not (commutes (effectOf o) (effectOf p))) rest) in
       let t = told (effectOf o) (effectOf p) (ranges i (omega (arith, h .1))) (ranges j (h .1)) differ in
       record {
         lower = l;
@@ -109,7 +105,7 @@ module _ (es : List Event) (ranges : EventsInRange es) (i j : ℕ) where
       pairs-in (test listed es) (length es) i j .1 (
         r .lower,
         r .higher,
-        and-intro pair (and-intro (not-true (before es i j) (λ e. r .unordered (before-iff es i j .0 e))) (not-true (commutes (effectOf o) (effectOf p)) differ)),
+        and-intro pair (and-intro (refuted (before es i j) (λ e. r .unordered (before-iff es i j .0 e))) (refuted (commutes (effectOf o) (effectOf p)) differ)),
       )
 
   -- THE list: events i and j stand in it exactly if i is the lower, both use the table of one switch, no chain leads from one to the

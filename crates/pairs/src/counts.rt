@@ -1,10 +1,8 @@
 // The four counts of the list.
 use crate::verdict::Verdict;
 ghost use mathlib.Core.Path.{_≡_};
-ghost use Prim.Native.Nat.{_+_, _*_, _≤_};
-ghost use lib.ListN.{length};
-ghost use lib.Seq.{sets};
-ghost use Rattle.pairs.specs.List.{Kind, listed, only, pairBytes};
+ghost use Prim.Native.Nat.{_+_};
+ghost use Rattle.pairs.specs.List.{Kind};
 ghost use Rattle.pairs.specs.Counting.{counts, countOf, size, Small};
 
 pub struct Counts {

@@ -1,5 +1,5 @@
 -- The invariant: the counts and the list have the pairs whose lower event is below i.
-use Prim.Native.Nat.{ℕ, _-_, _*_, _≤_}
+use Prim.Native.Nat.{ℕ, _-_, _≤_}
 use native.Mathlib.Omega.{arith}
 use mathlib.Core.Path.{_≡_, refl, sym, ap, _∙_}
 use mathlib.Core.List.{List}
@@ -13,10 +13,6 @@ use Rattle.pairs.specs.Counting.{countOf}
 use Rattle.pairs.proofs.PairLaws.{rowsBelow, below-most, below-count, below-bytes, all-rows, counted}
 use Rattle.pairs.proofs.pass.scan.Statement.{statement}
 use Rattle.pairs.proofs.pass.scan.Tie as tie
-use Rattle.pairs.proofs.pass.scan.Reads as reads
-use Rattle.pairs.proofs.pass.scan.Lts as lts
-use Rattle.pairs.proofs.counts.Counts.none.Reads as none-reads
-use Rattle.pairs.proofs.pass.scan_row.Reads as scan-row-reads
 
 abbrev Inv-loop : tie.InvT-loop
 Inv-loop t rows list₀ n sum₀ i₀ list sum i =
@@ -28,15 +24,9 @@ Inv-loop t rows list₀ n sum₀ i₀ list sum i =
 abbrev μ-loop : tie.MeasureT-loop
 μ-loop t rows list₀ n sum₀ i₀ list sum i = t .len - i
 
--- src/pass.rt:63:9
-none-requires : tie.Need-none-requires Inv-loop μ-loop
-none-requires c κs = search needs
-
--- src/pass.rt:64:5
 loop-holds : tie.Need-loop-holds Inv-loop μ-loop
 loop-holds c = (omega arith, search (needs, length-mapped), c .none .ensures, refl)
 
--- src/pass.rt:65:13
 scan-row-requires : tie.Need-scan-row-requires Inv-loop μ-loop
 scan-row-requires c κs =
     let l = c .before .before .loop in
@@ -54,15 +44,6 @@ scan-row-requires c κs =
       (s .pre .1, λ k. omega (arith, l .inv .2 k, below-most k (eventsOf (s .args .t)) (s .args .t .len) (l .i) (s .pre .0 .0))),
     )
 
--- src/pass.rt:64:9
-add-i : tie.Need-add-i Inv-loop μ-loop
-add-i c = omega arith
-
--- src/pass.rt:64:5
-loop-less : tie.Need-loop-less Inv-loop μ-loop
-loop-less c = omega arith
-
--- src/pass.rt:64:5
 loop-again : tie.Need-loop-again Inv-loop μ-loop
 loop-again c =
     let l = c .before .before .before .before .before .loop in
@@ -75,11 +56,9 @@ loop-again c =
       below-bytes (eventsOf t) (t .len) (l .i) _ _ _ (l .sum .listed) (l .inv .2 listed) (l .inv .3) (e .1),
     )
 
--- src/pass.rt:56:1
 same-length : tie.Need-same-length Inv-loop μ-loop
 same-length c = ap length (c .before .loop .inv .3) ∙ simp length-sets
 
--- src/pass.rt:56:1
 returns : tie.Need-returns Inv-loop μ-loop
 returns c =
     let l = c .before .loop in
@@ -99,12 +78,9 @@ scan-spec =
     tie.close
     (tie.spec
     Inv-loop
-    μ-loop
-    none-requires
+    μ-loop (λ c κs. search needs)
     loop-holds
-    scan-row-requires
-    add-i
-    loop-less
+    scan-row-requires (λ c. omega arith) (λ c. omega arith)
     loop-again
     same-length
     returns)

@@ -13,12 +13,6 @@ use Rattle.pairs.specs.Counting.{countOf, rowOf, verdictOf}
 use Rattle.pairs.proofs.PairLaws.{row-start, row-most, small-of, count-turn, bytes-turn}
 use Rattle.pairs.proofs.pass.scan_row.Statement.{statement}
 use Rattle.pairs.proofs.pass.scan_row.Tie as tie
-use Rattle.pairs.proofs.pass.scan_row.Reads as reads
-use Rattle.pairs.proofs.pass.scan_row.Lts as lts
-use Rattle.causality.proofs.is_before.Reads as is-before-reads
-use Rattle.pairs.proofs.counts.Counts.with.Reads as with-reads
-use Rattle.pairs.proofs.pass.put_listed.Reads as put-listed-reads
-use Rattle.pairs.proofs.verdict.verdict_of.Reads as verdict-of-reads
 
 abbrev Inv-loop : tie.InvT-loop
 Inv-loop rows i list₀ t n a sum₀ j₀ list sum j =
@@ -31,19 +25,6 @@ Inv-loop rows i list₀ t n a sum₀ j₀ list sum j =
 abbrev μ-loop : tie.MeasureT-loop
 μ-loop rows i list₀ t n a sum₀ j₀ list sum j = t .len - j
 
--- src/pass.rt:40:17
-mul-first : tie.Need-mul-first Inv-loop μ-loop
-mul-first c = omega arith
-
--- src/pass.rt:40:17
-element-copy-out-first : tie.Need-element-copy-out-first Inv-loop μ-loop
-element-copy-out-first c = omega arith
-
--- src/pass.rt:43:14
-add-j : tie.Need-add-j Inv-loop μ-loop
-add-j c = omega arith
-
--- src/pass.rt:43:5
 loop-holds : tie.Need-loop-holds Inv-loop μ-loop
 loop-holds c =
     let a = c .before .before .args in (
@@ -54,46 +35,12 @@ loop-holds c =
       rw (row-start (test listed (eventsOf (a .t1))) (a .i)) refl,
     )
 
--- src/pass.rt:44:22
-mul-second : tie.Need-mul-second Inv-loop μ-loop
-mul-second c = omega arith
-
--- src/pass.rt:44:22
-element-copy-out-second : tie.Need-element-copy-out-second Inv-loop μ-loop
-element-copy-out-second c = omega arith
-
--- src/pass.rt:46:50
-cast-is-before : tie.Need-cast-is-before Inv-loop μ-loop
-cast-is-before c = omega arith
-
--- src/pass.rt:46:59
-cast-is-before-2 : tie.Need-cast-is-before-2 Inv-loop μ-loop
-cast-is-before-2 c = omega arith
-
--- src/pass.rt:46:13
-is-before-requires : tie.Need-is-before-requires Inv-loop μ-loop
-is-before-requires c κs = search needs
-
--- src/pass.rt:47:13
-verdict-of-requires : tie.Need-verdict-of-requires Inv-loop μ-loop
-verdict-of-requires c κs = search needs
-
--- src/pass.rt:48:26
 mul-put-listed : tie.Need-mul-put-listed Inv-loop μ-loop
 mul-put-listed c =
     let l = c .before .before .before .before .before .before .loop in
     let s = c .before .before .before .before .before .before .before .before .before in
     omega (arith, l .inv .3 listed, s .pre .1 .1 listed, row-most (test listed (eventsOf (s .args .t1))) (s .args .i) (l .j))
 
--- src/pass.rt:48:42
-cast-put-listed : tie.Need-cast-put-listed Inv-loop μ-loop
-cast-put-listed c = omega arith
-
--- src/pass.rt:48:51
-cast-put-listed-2 : tie.Need-cast-put-listed-2 Inv-loop μ-loop
-cast-put-listed-2 c = omega arith
-
--- src/pass.rt:48:9
 put-listed-requires : tie.Need-put-listed-requires Inv-loop μ-loop
 put-listed-requires c κs =
     let l = c .before .before .before .before .before .before .loop in
@@ -108,22 +55,12 @@ put-listed-requires c κs =
       length-sets (s .args .list .now) (2 * s .args .c .listed) (pairBytes (rowOf listed (eventsOf (s .args .t1)) (s .args .i) (l .j))),
     )
 
--- src/pass.rt:49:13
 with-requires : tie.Need-with-requires Inv-loop μ-loop
 with-requires c κs =
     let l = c .before .before .before .before .before .before .before .before .before .loop in
     let s = c .before .before .before .before .before .before .before .before .before .before .before .before in
     small-of (l .sum) (λ k. omega (arith, l .inv .3 k, s .pre .0, s .pre .1 .1 k, row-most (test k (eventsOf (s .args .t1))) (s .args .i) (l .j)))
 
--- src/pass.rt:43:9
-add-j-2 : tie.Need-add-j-2 Inv-loop μ-loop
-add-j-2 c = omega arith
-
--- src/pass.rt:43:5
-loop-less : tie.Need-loop-less Inv-loop μ-loop
-loop-less c = omega arith
-
--- src/pass.rt:43:5
 loop-again : tie.Need-loop-again Inv-loop μ-loop
 loop-again c =
     let l = c .before .before .before .before .before .before .before .before .before .before .loop in
@@ -142,11 +79,9 @@ loop-again c =
       bytes-turn es i (l .j) (l .inv .0) before-is verdict _ _ _ (s .args .c .listed) (l .sum .listed) (l .inv .3 listed) (l .inv .4) (c .before .before .before .put-listed .ensures),
     )
 
--- src/pass.rt:32:1
 same-length : tie.Need-same-length Inv-loop μ-loop
 same-length c = ap length (c .before .loop .inv .4) ∙ simp length-sets
 
--- src/pass.rt:32:1
 returns : tie.Need-returns Inv-loop μ-loop
 returns c =
     let l = c .before .loop in
@@ -161,24 +96,11 @@ scan-row-spec =
     tie.close
     (tie.spec
     Inv-loop
-    μ-loop
-    mul-first
-    element-copy-out-first
-    add-j
-    loop-holds
-    mul-second
-    element-copy-out-second
-    cast-is-before
-    cast-is-before-2
-    is-before-requires
-    verdict-of-requires
-    mul-put-listed
-    cast-put-listed
-    cast-put-listed-2
+    μ-loop (λ c. omega arith) (λ c. omega arith) (λ c. omega arith)
+    loop-holds (λ c. omega arith) (λ c. omega arith) (λ c. omega arith) (λ c. omega arith) (λ c κs. search needs) (λ c κs. search needs)
+    mul-put-listed (λ c. omega arith) (λ c. omega arith)
     put-listed-requires
-    with-requires
-    add-j-2
-    loop-less
+    with-requires (λ c. omega arith) (λ c. omega arith)
     loop-again
     same-length
     returns)

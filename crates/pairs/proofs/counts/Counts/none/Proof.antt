@@ -2,10 +2,7 @@ use mathlib.Core.Path.{refl}
 use Rattle.pairs.specs.List.{pairs, ordered, commuting, listed}
 use Rattle.pairs.proofs.counts.Counts.none.Statement.{statement}
 use Rattle.pairs.proofs.counts.Counts.none.Tie as tie
-use Rattle.pairs.proofs.counts.Counts.none.Reads as reads
-use Rattle.pairs.proofs.counts.Counts.none.Lts as lts
 
--- src/counts.rt:18:5
 returns : tie.Need-returns
 returns c pairs = refl
 returns c ordered = refl

@@ -1,0 +1,209 @@
+-- The rest of a line, behind `in` and `out`: for each word a format of its own fields, and so one of the operations of that word.
+use Prim.Native.Nat.{ℕ, _+_, _≤_}
+use mathlib.Core.List.{List, [], _++_}
+use mathlib.Core.Option.{some}
+use mathlib.Core.Path.{_≡_, refl, sym, _∙_, ap, subst}
+use native.Mathlib.Nat.{add-zero}
+use native.Mathlib.Omega.{arith}
+use lib.ListN.{length, drop}
+use Rattle.digits.specs.Reading.{Reader, mapped, both}
+use Rattle.digits.specs.Print.{printNumber}
+use Rattle.digits.specs.Format.{Ends, Follows, Format}
+use Rattle.digits.proofs.Readers.{same-value, same-place, on-read}
+use Rattle.digits.proofs.Numbers.{number-format}
+use Rattle.digits.proofs.Format.{keyed-format, both-format}
+use Rattle.flow.specs.Matches.{PacketInRange}
+use Rattle.fields.specs.Print.{printMatch, printPacket, printKey, printEntry}
+use Rattle.fields.specs.Read.{readMatch, readPacket, readKey, readEntry}
+use Rattle.fields.specs.Written.{MatchWritten, KeyWritten, EntryWritten}
+use Rattle.fields.proofs.MatchFormats.{space-ends, match-follows, match-format, packet-follows, packet-format}
+use Rattle.fields.proofs.EntryFormats.{key-follows, key-format, entry-follows, entry-format}
+use Rattle.eventline.specs.declared.words.Word.the-variants as W
+use Rattle.eventline.specs.Types.{Match, Packet, Key, Entry, Lookup, Add, AddChecked, ModifyStrict, Modify, DeleteStrict, Delete, Operation, Other, Barrier, Message, OnTable, Word}
+use Rattle.eventline.specs.EventLine.{swKey, printSwitch, printOperation, readSwitch, onSwitch, readOperation, wordOf}
+use Rattle.eventline.specs.Written.{OperationWritten}
+
+-- ---- the fields of each word
+abbrev Fields : Word → Type 0
+Fields W.Other = Unit {0}
+Fields W.Barrier = ℕ
+Fields W.Message = ℕ
+Fields W.Packet = ℕ × Packet
+Fields W.Add = ℕ × Entry
+Fields W.AddChecked = ℕ × Entry
+Fields W.ModifyStrict = ℕ × Entry
+Fields W.Modify = ℕ × Entry
+Fields W.DeleteStrict = ℕ × Key
+Fields W.Delete = ℕ × Match
+
+-- a switch in range, and what stands behind it
+abbrev Behind : {A : Type 0} → (A → Type 0) → ℕ × A → Type 0
+Behind ok p = (p .0 ≤ 15) × ok (p .1)
+
+abbrev printBoth : {A : Type 0} → (A → List ℕ) → ℕ × A → List ℕ
+printBoth print p = printSwitch (p .0) ++ print (p .1)
+
+abbrev FieldsWritten : (w : Word) → Fields w → Type 0
+FieldsWritten W.Other = λ x. Unit {0}
+FieldsWritten W.Barrier = λ w. w ≤ 15
+FieldsWritten W.Message = λ w. w ≤ 15
+FieldsWritten W.Packet = Behind PacketInRange
+FieldsWritten W.Add = Behind EntryWritten
+FieldsWritten W.AddChecked = Behind EntryWritten
+FieldsWritten W.ModifyStrict = Behind EntryWritten
+FieldsWritten W.Modify = Behind EntryWritten
+FieldsWritten W.DeleteStrict = Behind KeyWritten
+FieldsWritten W.Delete = Behind MatchWritten
+
+abbrev printFields : (w : Word) → Fields w → List ℕ
+printFields W.Other = λ x. []
+printFields W.Barrier = printSwitch
+printFields W.Message = printSwitch
+printFields W.Packet = printBoth printPacket
+printFields W.Add = printBoth printEntry
+printFields W.AddChecked = printBoth printEntry
+printFields W.ModifyStrict = printBoth printEntry
+printFields W.Modify = printBoth printEntry
+printFields W.DeleteStrict = printBoth printKey
+printFields W.Delete = printBoth printMatch
+
+abbrev readNothing : Reader (Unit {0})
+readNothing s at = some (tt, at)
+
+abbrev readFields : (w : Word) → Reader (Fields w)
+readFields W.Other = readNothing
+readFields W.Barrier = readSwitch
+readFields W.Message = readSwitch
+readFields W.Packet = both readSwitch readPacket
+readFields W.Add = both readSwitch readEntry
+readFields W.AddChecked = both readSwitch readEntry
+readFields W.ModifyStrict = both readSwitch readEntry
+readFields W.Modify = both readSwitch readEntry
+readFields W.DeleteStrict = both readSwitch readKey
+readFields W.Delete = both readSwitch readMatch
+
+switch-format : Format (λ w. w ≤ 15) printSwitch readSwitch
+unfolding readSwitch
+switch-format = keyed-format swKey (number-format 15 (omega arith))
+
+nothing-format : Format (λ x. Unit {0}) (λ x. []) readNothing
+nothing-format = record {
+  reads = λ x o s at rest e h. rw add-zero;
+  only = λ s at x n e. let y : at ≡ n = same-place e in (tt, rw y refl, rw (add-zero, y) refl);
+}
+
+entry-fields : Format (Behind EntryWritten) (printBoth printEntry) (both readSwitch readEntry)
+entry-fields = both-format entry-follows switch-format entry-format
+
+fields-format : (w : Word) → Format (FieldsWritten w) (printFields w) (readFields w)
+fields-format W.Other = nothing-format
+fields-format W.Barrier = switch-format
+fields-format W.Message = switch-format
+fields-format W.Packet = both-format packet-follows switch-format packet-format
+fields-format W.Add = entry-fields
+fields-format W.AddChecked = entry-fields
+fields-format W.ModifyStrict = entry-fields
+fields-format W.Modify = entry-fields
+fields-format W.DeleteStrict = both-format key-follows switch-format key-format
+fields-format W.Delete = both-format match-follows switch-format match-format
+
+-- ---- the operation of a word's fields, and the fields of an operation
+abbrev make : (w : Word) → Fields w → Operation
+make W.Other = λ x. Other
+make W.Barrier = Barrier
+make W.Message = Message
+make W.Packet = λ (w, p). OnTable w (Lookup p)
+make W.Add = λ (w, e). OnTable w (Add e)
+make W.AddChecked = λ (w, e). OnTable w (AddChecked e)
+make W.ModifyStrict = λ (w, e). OnTable w (ModifyStrict e)
+make W.Modify = λ (w, e). OnTable w (Modify e)
+make W.DeleteStrict = λ (w, k). OnTable w (DeleteStrict k)
+make W.Delete = λ (w, m). OnTable w (Delete m)
+
+-- an operation is made of fields of its word, in range if it is
+made : (o : Operation) → OperationWritten o → (x : Fields (wordOf o)) × FieldsWritten (wordOf o) x × (make (wordOf o) x ≡ o)
+made Other o = (tt, tt, refl)
+made (Barrier w) o = (w, o, refl)
+made (Message w) o = (w, o, refl)
+made (OnTable w (Lookup p)) o = ((w, p), o, refl)
+made (OnTable w (Add e)) o = ((w, e), o, refl)
+made (OnTable w (AddChecked e)) o = ((w, e), o, refl)
+made (OnTable w (ModifyStrict e)) o = ((w, e), o, refl)
+made (OnTable w (Modify e)) o = ((w, e), o, refl)
+made (OnTable w (DeleteStrict k)) o = ((w, k), o, refl)
+made (OnTable w (Delete m)) o = ((w, m), o, refl)
+
+-- what fields make has their word, their text and their range
+makes : (w : Word) (x : Fields w) → FieldsWritten w x → OperationWritten (make w x) × (wordOf (make w x) ≡ w)
+makes W.Other x o = (tt, refl)
+makes W.Barrier x o = (o, refl)
+makes W.Message x o = (o, refl)
+makes W.Packet x o = (o, refl)
+makes W.Add x o = (o, refl)
+makes W.AddChecked x o = (o, refl)
+makes W.ModifyStrict x o = (o, refl)
+makes W.Modify x o = (o, refl)
+makes W.DeleteStrict x o = (o, refl)
+makes W.Delete x o = (o, refl)
+
+prints : (w : Word) (x : Fields w) → printOperation (make w x) ≡ printFields w x
+unfolding printOperation
+prints W.Other x = refl
+prints W.Barrier x = refl
+prints W.Message x = refl
+prints W.Packet x = refl
+prints W.Add x = refl
+prints W.AddChecked x = refl
+prints W.ModifyStrict x = refl
+prints W.Modify x = refl
+prints W.DeleteStrict x = refl
+prints W.Delete x = refl
+
+reads-fields : (w : Word) (s : List ℕ) (at : ℕ) → readOperation w s at ≡ mapped (make w) (readFields w) s at
+unfolding readOperation onSwitch mapped
+reads-fields W.Other s at = refl
+reads-fields W.Barrier s at = refl
+reads-fields W.Message s at = refl
+reads-fields W.Packet s at = refl
+reads-fields W.Add s at = refl
+reads-fields W.AddChecked s at = refl
+reads-fields W.ModifyStrict s at = refl
+reads-fields W.Modify s at = refl
+reads-fields W.DeleteStrict s at = refl
+reads-fields W.Delete s at = refl
+
+-- ---- the operations of a word
+fields-reads : (w : Word) (x : Fields w) → FieldsWritten w x → (s : List ℕ) (at : ℕ) (rest : List ℕ) → Ends rest → drop at s ≡ printOperation (make w x) ++ rest
+    → readOperation w s at ≡ some (make w x, at + length (printOperation (make w x)))
+unfolding mapped
+fields-reads w x o s at rest e h =
+    reads-fields w s at ∙ rw (fields-format w .reads x o s at rest e (h ∙ rw (prints w x) refl), prints w x) refl
+
+own-reads : (o : Operation) → OperationWritten o → (s : List ℕ) (at : ℕ) (rest : List ℕ) → Ends rest → drop at s ≡ printOperation o ++ rest
+    → readOperation (wordOf o) s at ≡ some (o, at + length (printOperation o))
+own-reads o r s at rest e h =
+    let (x, f, m) = made o r in
+    subst (λ (p : Operation). drop at s ≡ printOperation p ++ rest → readOperation (wordOf o) s at ≡ some (p, at + length (printOperation p))) m
+    (fields-reads (wordOf o) x f s at rest e) h
+
+operation-only : (w : Word) (s : List ℕ) (at : ℕ) (o : Operation) (n : ℕ) → readOperation w s at ≡ some (o, n)
+    → (OperationWritten o × (wordOf o ≡ w)) × (drop at s ≡ printOperation o ++ drop n s) × (n ≡ at + length (printOperation o))
+unfolding mapped
+operation-only w s at o n e = on-read (readFields w s at)
+    (λ x m p q. let a : make w x ≡ o = same-value q in
+    let b : m ≡ n = same-place q in
+    let (f, t, l) = fields-format w .only s at x m p in
+    rw (← a, ← b) (makes w x f, t ∙ rw (prints w x) refl, l ∙ rw (prints w x) refl)) (sym (reads-fields w s at) ∙ e)
+
+pub operation-format : (w : Word) → Format (λ o. OperationWritten o × (wordOf o ≡ w)) printOperation (readOperation w)
+operation-format w = record {
+  reads = λ o (r, q) s at rest e h. subst (λ (v : Word). readOperation v s at ≡ some (o, at + length (printOperation o))) q (own-reads o r s at rest e h);
+  only = operation-only w;
+}
+
+pub operation-follows : Follows printOperation
+unfolding printOperation
+operation-follows Other rest e = e
+operation-follows (Barrier w) rest e = space-ends _
+operation-follows (Message w) rest e = space-ends _
+operation-follows (OnTable w o) rest e = space-ends _

@@ -1,0 +1,36 @@
+-- Document 01, "Trace text": the ranges of what a line can say. A prefix as written may have an address bit past its length:
+-- such a line is refused for that, and no other way.
+use Prim.Native.Nat.{_≤_, _<_}
+use Rattle.flow.specs.Matches.{PacketInRange}
+use Rattle.fields.specs.Written.{MatchWritten, KeyWritten, EntryWritten}
+use Rattle.table.specs.FlowTable.{effectOf}
+use Rattle.commute.specs.Commuting.{EffectInRange}
+use Rattle.orders.specs.Tables.{switchOf}
+use Rattle.eventline.specs.Types.{TableOperation, Lookup, Add, AddChecked, ModifyStrict, Modify, DeleteStrict, Delete, Operation, Other, Barrier, Message, OnTable, Event}
+use Rattle.eventline.specs.TokenLists.{TokensWritten}
+
+abbrev pub TableWritten : TableOperation → Type 0
+TableWritten (Lookup p) = PacketInRange p
+TableWritten (Add e) = EntryWritten e
+TableWritten (AddChecked e) = EntryWritten e
+TableWritten (ModifyStrict e) = EntryWritten e
+TableWritten (Modify e) = EntryWritten e
+TableWritten (DeleteStrict k) = KeyWritten k
+TableWritten (Delete m) = MatchWritten m
+
+-- a switch is 0 to 15
+abbrev pub OperationWritten : Operation → Type 0
+OperationWritten Other = Unit {0}
+OperationWritten (Barrier w) = w ≤ 15
+OperationWritten (Message w) = w ≤ 15
+OperationWritten (OnTable w o) = (w ≤ 15) × TableWritten o
+
+pub record EventWritten (e : Event) : Type 0 where
+  pub ins : TokensWritten (e .ins)
+  pub outs : TokensWritten (e .outs)
+  pub operation : OperationWritten (e .operation)
+
+-- the ranges of document 01: what is done to a table is in range, and the switch is one of sixteen
+pub record EventInRange (e : Event) : Type 0 where
+  pub effect : EffectInRange (effectOf (e .operation))
+  pub switch : switchOf (e .operation) < 16

@@ -1,0 +1,75 @@
+// One line of a trace, taken apart or else refused by number.
+use crate::clear::clear_operation;
+use crate::operation::OperationRead;
+use crate::operation::operation_at;
+use crate::tokens::TokensRead;
+use crate::tokens::tokens_at;
+use crate::words::WordRead;
+use crate::words::word_at;
+use digits::Number;
+use digits::number_at;
+use events::Event;
+use refusals::Refusal;
+ghost use mathlib.Core.Path.{_≡_};
+ghost use Rattle.eventline.specs.EventLine.{readEvent, asEvent};
+
+// The event of a line, or its refusal.
+pub enum EventRead {
+    Read(Event),
+    Refused(Refusal),
+}
+
+// The line of that number: malformed, misnumbered, an address bit past its prefix, in this order; else its event.
+pub fn event_line(s: &[u8], line: usize) -> EventRead
+    ensures { λ r. ⌜ asEvent r ≡ readEvent line (now (s .entry)) ⌝ }
+{
+    let Number::Read {
+        value: number,
+        next: a,
+    } = number_at(s, 0, b"ev=", 255)
+    else {
+        return EventRead::Refused(Refusal::TraceMalformed(line));
+    };
+    let WordRead::Read {
+        value: word,
+        next: b,
+    } = word_at(s, a)
+    else {
+        return EventRead::Refused(Refusal::TraceMalformed(line));
+    };
+    let TokensRead::Read {
+        value: ins,
+        next: c,
+    } = tokens_at(s, b, b"in=")
+    else {
+        return EventRead::Refused(Refusal::TraceMalformed(line));
+    };
+    let TokensRead::Read {
+        value: outs,
+        next: d,
+    } = tokens_at(s, c, b" out=")
+    else {
+        return EventRead::Refused(Refusal::TraceMalformed(line));
+    };
+    let OperationRead::Read {
+        value: operation,
+        next: end,
+    } = operation_at(s, d, word)
+    else {
+        return EventRead::Refused(Refusal::TraceMalformed(line));
+    };
+    if end != s.len() {
+        return EventRead::Refused(Refusal::TraceMalformed(line));
+    }
+    if number as usize != line {
+        return EventRead::Refused(Refusal::EventMisnumbered(line));
+    }
+    if clear_operation(operation) {
+        return EventRead::Read(Event {
+            ins,
+            outs,
+            operation,
+        });
+    }
+    EventRead::Refused(Refusal::TraceAddressBit(line))
+}

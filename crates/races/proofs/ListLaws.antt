@@ -1,0 +1,61 @@
+-- The list call's answer and its buffer, by the two paths through the code. Assumes nothing.
+use Prim.Native.Nat.{ℕ, _+_, _*_, _<_, _≤_}
+use native.Mathlib.Omega.{arith}
+use mathlib.Core.Path.{_≡_, refl, sym, ap, _∙_}
+use mathlib.Core.Bool.{true, false}
+use mathlib.Core.List.{List, _++_}
+use lib.Dec.{ltb}
+use lib.ListN.{length, length-take, take, drop}
+use lib.Seq.{sets, sets-eq, take-at, take-all}
+use borrow.Author.Tests.{lt-ltb, le-ltb}
+use Rattle.events.specs.Events.{eventsOf}
+use Rattle.pairs.specs.List.{listed, listOf, count, pairBytes, needed, countsOf}
+use Rattle.pairs.proofs.PairLaws.{bytes-length, below-most, all-rows}
+use Rattle.races.specs.Types.{Event, Trace, Counts, Counted, Refused, ListShort}
+use Rattle.races.specs.Races.{answerFor, bufferAfter}
+
+pub events-most : (t : Trace) → t .len ≤ 256 → length (eventsOf t) ≤ 256
+unfolding eventsOf
+events-most t h = omega (arith, length-take (t .len) (t .events))
+
+-- at most 65536 pairs are listed of 256 events
+pub listed-most : (es : List Event) → length es ≤ 256 → count listed es ≤ 65536
+listed-most es l = omega (arith, ap length (all-rows listed es (length es)), below-most listed es (length es) (length es) l)
+
+-- the number of listed pairs, as the code has it
+pub listed-is : (es : List Event) (c : Counts) → c ≡ countsOf es → c .listed ≡ count listed es
+unfolding countsOf
+listed-is es c e = ap (λ (d : Counts). d .listed) e
+
+needed-is : (es : List Event) (c : Counts) → c ≡ countsOf es → 2 * c .listed ≡ needed es
+unfolding needed
+needed-is es c e = ap (λ (n : ℕ). 2 * n) (listed-is es c e)
+
+bytes-needed : (es : List Event) → length (pairBytes (listOf es)) ≡ needed es
+unfolding needed
+bytes-needed es = bytes-length (listOf es)
+
+module _ (es : List Event) (c : Counts) (e : c ≡ countsOf es) (old : List ℕ) where
+  pub list-short : length old < 2 * c .listed → (Refused (ListShort (2 * c .listed)) ≡ answerFor es (length old)) × (old ≡ bufferAfter es old)
+  unfolding answerFor bufferAfter
+  list-short l =
+      let t : ltb (length old) (needed es) ≡ true = lt-ltb (length old) (needed es) (omega (arith, needed-is es c e)) in
+      (rw (t, needed-is es c e) refl, rw t refl)
+
+  -- the list made in a buffer of its own
+  made : (buffer list : List ℕ) → list ≡ sets buffer 0 (pairBytes (listOf es)) → 2 * c .listed ≤ length buffer → take (2 * c .listed) list ≡ pairBytes (listOf es)
+  made buffer list h l =
+      ap (take (2 * c .listed)) (h ∙ sets-eq (pairBytes (listOf es)) buffer 0 (omega (arith, bytes-needed es, needed-is es c e)))
+      ∙ take-at (pairBytes (listOf es)) (drop (0 + length (pairBytes (listOf es))) buffer) (2 * c .listed) (bytes-needed es ∙ sym (needed-is es c e))
+
+  pub list-done : (buffer list src out : List ℕ) → list ≡ sets buffer 0 (pairBytes (listOf es)) → 2 * c .listed ≤ length buffer → 2 * c .listed ≤ length old
+      → src ≡ take (2 * c .listed) list → out ≡ take (length src) src ++ drop (length src) old
+      → (Counted c ≡ answerFor es (length old)) × (out ≡ bufferAfter es old)
+  unfolding answerFor bufferAfter
+  list-done buffer list src out h l m s o =
+      let t : ltb (length old) (needed es) ≡ false = le-ltb (length old) (needed es) (omega (arith, needed-is es c e)) in
+      let w : src ≡ pairBytes (listOf es) = s ∙ made buffer list h l in (
+        rw t (ap Counted e),
+        rw t (o ∙ ap (λ (x : List ℕ). x ++ drop (length src) old) (take-all (length src) src (omega arith) ∙ w)
+            ∙ ap (λ (n : ℕ). pairBytes (listOf es) ++ drop n old) (ap length w ∙ bytes-needed es)),
+      )

@@ -1,0 +1,73 @@
+-- Texts of a report, put one behind another. Assumes nothing.
+use Prim.Native.Nat.{ℕ, suc, _+_, _*_, _<_, _≤_, _^_}
+use native.Mathlib.Omega.{arith}
+use mathlib.Core.Path.{_≡_, refl, sym, ap, ap₂, subst, _∙_}
+use mathlib.Core.List.{List, [], _∷_, _++_, append-assoc, append-nil}
+use lib.ListN.{length, take, drop, getD, length-drop}
+use lib.Seq.{drop-cons}
+use Rattle.digits.specs.Print.{Put}
+use Rattle.digits.proofs.Writing.{put-then}
+use Rattle.refusals.specs.Refusals.{numberOf, placeOf, sourceOf, lineOf}
+use Rattle.races.specs.Types.{Counts, Refusal, Source, ListAnswer, Counted, Refused}
+use Rattle.races.specs.Report.{item, raceLine, raceLines, refusalLine, lineText, refusedText, countsLine, answerText, SmallCounts, Printable}
+
+-- the pair at place i of a list, and the rest
+next-pair : (list : List ℕ) (i : ℕ) → i + 1 < length list → raceLines (drop i list) ≡ raceLine (getD list i 0) (getD list (i + 1) 0) ++ raceLines (drop (i + 2) list)
+next-pair list i l =
+    let e : i + 1 ≡ suc i = omega arith in
+    let f : i + 2 ≡ suc (suc i) = omega arith in
+    ap raceLines (drop-cons list i 0 (omega arith) ∙ ap (λ (r : List ℕ). getD list i 0 ∷ r) (drop-cons list (suc i) 0 (omega arith)))
+    ∙ ap₂ (λ (a b : ℕ). raceLine (getD list i 0) (getD list a 0) ++ raceLines (drop b list)) (sym e) (sym f)
+
+no-pair : (l : List ℕ) → length l ≤ 1 → raceLines l ≡ []
+no-pair [] h = refl
+no-pair (i ∷ []) h = refl
+no-pair (i ∷ j ∷ l) h = absurd (omega arith)
+
+module _ (list old : List ℕ) (i : ℕ) {w : List ℕ} {at : ℕ} {out : List ℕ} (p : Put w 0 old at out) (whole : w ++ raceLines (drop i list) ≡ raceLines list) where
+  -- a turn of the loop over the pairs
+  pub races-turn : {r : ℕ} {now : List ℕ} → i + 1 < length list → Put (raceLine (getD list i 0) (getD list (i + 1) 0)) at out r now
+      → Put (w ++ raceLine (getD list i 0) (getD list (i + 1) 0)) 0 old r now
+      × ((w ++ raceLine (getD list i 0) (getD list (i + 1) 0)) ++ raceLines (drop (i + 2) list) ≡ raceLines list)
+  races-turn l q = (
+    put-then p q,
+    append-assoc w (raceLine (getD list i 0) (getD list (i + 1) 0)) (raceLines (drop (i + 2) list)) ∙ ap (λ (r : List ℕ). w ++ r) (sym (next-pair list i l)) ∙ whole,
+  )
+
+  pub races-done : length list ≤ i + 1 → Put (raceLines list) 0 old at out
+  races-done l =
+      let e : w ≡ raceLines list = sym (append-nil w) ∙ ap (λ (r : List ℕ). w ++ r) (sym (no-pair (drop i list) (omega (arith, length-drop i list)))) ∙ whole in
+      subst (λ (t : List ℕ). Put t 0 old at out) e p
+
+-- a refusal's line, by the numbers that the code has
+pub refusal-put : (r : Refusal) (n p : ℕ) {m : ℕ} {old out : List ℕ} → n ≡ numberOf r → p ≡ placeOf r
+    → Put (item (114 ∷ 101 ∷ 102 ∷ 117 ∷ 115 ∷ 101 ∷ 100 ∷ 61 ∷ []) n ++ item (32 ∷ 112 ∷ 108 ∷ 97 ∷ 99 ∷ 101 ∷ 61 ∷ []) p ++ (10 ∷ [])) 0 old m out
+    → Put (refusalLine r) 0 old m out
+unfolding refusalLine
+refusal-put r n p {m} {old} {out} e f h =
+    subst (λ (t : List ℕ). Put t 0 old m out)
+    (ap₂ (λ (a b : ℕ). item (114 ∷ 101 ∷ 102 ∷ 117 ∷ 115 ∷ 101 ∷ 100 ∷ 61 ∷ []) a ++ item (32 ∷ 112 ∷ 108 ∷ 97 ∷ 99 ∷ 101 ∷ 61 ∷ []) b ++ (10 ∷ [])) e f) h
+
+-- an arm of the match on the text that a refusal's line stands in
+pub refused-arm : (trace : List ℕ) (r : Refusal) (line : List ℕ) {s form : Source} {n : ℕ} {old out : List ℕ} → s ≡ sourceOf r → s ≡ form → line ≡ lineOf trace [] r
+    → Put (refusalLine r ++ lineText form line) 0 old n out → Put (refusedText trace r) 0 old n out
+unfolding refusedText
+refused-arm trace r line {n = n} {old = old} {out = out} e f g h =
+    subst (λ (t : List ℕ). Put t 0 old n out) (ap₂ (λ (a : Source) (b : List ℕ). refusalLine r ++ lineText a b) (sym f ∙ e) g) h
+
+-- the arms of the match on an answer
+module _ {a : ListAnswer} (list : List ℕ) where
+  pub counts-printable : (c : Counts) → a ≡ Counted c → Printable a list → SmallCounts c × (2 * c .listed ≤ length list)
+  counts-printable c e p = subst (λ (x : ListAnswer). Printable x list) e p
+
+  pub refused-printable : (r : Refusal) → a ≡ Refused r → Printable a list → placeOf r < 2 ^ 32
+  refused-printable r e p = subst (λ (x : ListAnswer). Printable x list) e p
+
+module _ (trace list : List ℕ) {a : ListAnswer} {n : ℕ} {old out : List ℕ} where
+  pub counts-answer : (c : Counts) → a ≡ Counted c → Put (raceLines (take (2 * c .listed) list) ++ countsLine c) 0 old n out → Put (answerText trace a list) 0 old n out
+  unfolding answerText
+  counts-answer c e p = subst (λ (x : ListAnswer). Put (answerText trace x list) 0 old n out) (sym e) p
+
+  pub refused-answer : (r : Refusal) → a ≡ Refused r → Put (refusedText trace r) 0 old n out → Put (answerText trace a list) 0 old n out
+  unfolding answerText
+  refused-answer r e p = subst (λ (x : ListAnswer). Put (answerText trace x list) 0 old n out) (sym e) p

@@ -1,0 +1,58 @@
+use Prim.Native.Nat.{ℕ, _*_, _≤_}
+use native.Mathlib.Omega.{arith}
+use mathlib.Core.Path.{refl, sym, ap}
+use lib.ListN.{length, replicate, length-replicate}
+use lib.Seq.{length-sets, length-take-le}
+use Rattle.events.specs.Events.{eventsOf}
+use Rattle.pairs.specs.List.{listOf, pairBytes}
+use Rattle.races.proofs.ListLaws.{events-most, listed-most, listed-is, list-short, list-done}
+use borrow.Author.Needs.{needs}
+use Rattle.races.proofs.listing.list.Statement.{statement}
+use Rattle.races.proofs.listing.list.Tie as tie
+
+scan-requires : tie.Need-scan-requires
+scan-requires c κs = ((c .before .before .before .before .pre, search needs), c .before .before .happens-before .ensures)
+
+mul-needed : tie.Need-mul-needed
+mul-needed c =
+    let s = c .before .before .before .before .before .before .before in
+    let es = eventsOf (s .args .t) in
+    omega (arith, listed-is es (c .before .before .scan .result) (c .before .before .scan .ensures .0), listed-most es (events-most (s .args .t) (s .pre)))
+
+returns : tie.Need-returns
+returns c = list-short _ (c .before .before .before .scan .result) (c .before .before .before .scan .ensures .0) _ (c .if1 .taken)
+
+-- the list's own buffer is long enough for all pairs
+buffer-fits : (c : tie.Else1) → 2 * c .before .before .before .scan .result .listed ≤ 131072
+buffer-fits c =
+    let s = c .before .before .before .before .before .before .before .before in
+    let es = eventsOf (s .args .t) in
+    omega (arith, listed-is es (c .before .before .before .scan .result) (c .before .before .before .scan .ensures .0), listed-most es (events-most (s .args .t) (s .pre)))
+
+prefix-fits : (c : tie.Else1) → 2 * c .before .before .before .scan .result .listed ≤ length (c .before .before .before .scan .last .1 .1 .0)
+prefix-fits c = omega (arith, buffer-fits c, ap length (c .before .before .before .scan .ensures .1), length-sets (replicate 131072 0) 0 (pairBytes (listOf (eventsOf (c .before .before .before .before .before .before .before .before .args .t)))), length-replicate {A = ℕ} 131072 0)
+
+array-share-prefix-pairs : tie.Need-array-share-prefix-pairs
+array-share-prefix-pairs c = prefix-fits c
+
+slice-aggregate-copy : tie.Need-slice-aggregate-copy
+slice-aggregate-copy c = sym (length-take-le _ _ (prefix-fits (c .before)))
+
+copy-requires : tie.Need-copy-requires
+copy-requires c κs = omega (arith, length-take-le (2 * c .before .before .before .before .before .scan .result .listed) (c .before .before .before .before .before .scan .last .1 .1 .0) (prefix-fits (c .before .before)))
+
+returns-2 : tie.Need-returns-2
+returns-2 c =
+    list-done _ (c .before .before .before .before .before .before .before .before .scan .result) (c .before .before .before .before .before .before .before .before .scan .ensures .0) _ _ _ _ _ (c .before .before .before .before .before .before .before .before .scan .ensures .1) (buffer-fits (c .before .before .before .before .before)) (omega arith) refl (c .before .before .copy .ensures .1)
+
+pub list-spec : {M : Type 1} → statement M
+list-spec =
+    tie.close
+    (tie.spec (λ c κs. search needs) (λ c. search needs)
+    scan-requires
+    mul-needed
+    returns
+    array-share-prefix-pairs
+    slice-aggregate-copy
+    copy-requires (λ c. search needs)
+    returns-2)

@@ -1,0 +1,7 @@
+// The list of a trace: the call, and what is printed of its answer.
+pub mod answer;
+pub mod listing;
+pub mod report;
+
+pub use answer::ListAnswer;
+pub use listing::list;

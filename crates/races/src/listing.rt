@@ -1,0 +1,27 @@
+// The list of a trace's events, written into the caller's buffer.
+use crate::answer::ListAnswer;
+use events::Trace;
+use refusals::Refusal;
+ghost use mathlib.Core.Path.{_≡_};
+ghost use Prim.Native.Nat.{_≤_};
+ghost use lib.ListN.{length};
+ghost use Rattle.events.specs.Events.{eventsOf};
+ghost use Rattle.races.specs.Races.{answerFor, bufferAfter};
+
+// The listed pairs from the buffer's start and the four counts; where the buffer is too short, the bytes needed. The list is made
+// in a buffer of its own, so that nothing is written before its length is known.
+pub fn list(t: Trace, out: &mut [u8]) -> ListAnswer
+    requires { ⌜ t .len ≤ 256 ⌝ }
+    ensures { λ r. ⌜ r ≡ answerFor (eventsOf t) (length (now (out .entry))) ⌝ }
+    ensures { λ r. ⌜ now (out .exit) ≡ bufferAfter (eventsOf t) (now (out .entry)) ⌝ }
+{
+    let rows = causality::happens_before(t);
+    let mut pairs = [0u8; 131072];
+    let counts = pairs::scan(t, &rows, &mut pairs);
+    let needed = 2 * counts.listed;
+    if out.len() < needed {
+        return ListAnswer::Refused(Refusal::ListShort(needed));
+    }
+    bytes::copy(&pairs[..needed], out);
+    ListAnswer::Counts(counts)
+}

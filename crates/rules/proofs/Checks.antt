@@ -1,0 +1,80 @@
+-- Laws of the checks of a table text, and of the answers.
+use Prim.Native.Nat.{ℕ, _≤_, _<_}
+use mathlib.Core.Bool.{Bool, true, false, cond}
+use mathlib.Core.List.{List, _++_}
+use mathlib.Core.Logic.{_⊎_, inl, inr}
+use mathlib.Core.Path.{_≡_, sym, _∙_, ap}
+use native.Mathlib.Omega.{arith}
+use borrow.Author.Tests.{lt-ltb, le-ltb}
+use lib.ListN.{length, drop}
+use Rattle.digits.specs.Print.{Put}
+use Rattle.digits.proofs.Writing.{put-whole}
+use Rattle.lines.specs.Lines.{lines, newlines, endsWithLf}
+use Rattle.lines.proofs.Lines.{lines-count}
+use Rattle.rows.specs.Rows.{sortRows}
+use Rattle.rules.specs.Types.{Refusal, TablesTooLong, TablesUnended, TablesTooManyLines, KeyTwice, TablesShort, Row, Outcome, Accepted, Refused}
+use Rattle.rules.specs.TableText.{readRows, inOrder, sorted, readTables, asOutcome}
+use Rattle.rules.specs.Normal.{Normalised, normalText, putText, normalised}
+
+-- ---- what a sort's answer says
+module _ (ok : Bool) (rs : List Row) (k : ℕ) (answer : ℕ ⊎ List Row) (e : cond ok (inr rs) (inl k) ≡ answer) where
+  pub sorted-rows : ok ≡ true → inr rs ≡ inOrder answer
+  sorted-rows t = ap inOrder (rw t at e)
+
+  pub twice-rows : ok ≡ false → inl (KeyTwice k) ≡ inOrder answer
+  twice-rows t = ap inOrder (rw t at e)
+
+-- ---- the checks of a text, in their order
+module _ (s : List ℕ) where
+  pub too-long : 65535 < length s → inl TablesTooLong ≡ readTables s
+  unfolding readTables
+  too-long h = sym (rw (lt-ltb _ _ h))
+
+  module _ (short : length s ≤ 65535) where
+    pub unended : endsWithLf s ≡ false → inl TablesUnended ≡ readTables s
+    unfolding readTables
+    unended e = sym (rw (le-ltb _ _ short, e))
+
+    module _ (ended : endsWithLf s ≡ true) where
+      pub few-lines : newlines s ≤ 256 → length (lines s) ≤ 256
+      few-lines h = omega (arith, lines-count s ended)
+
+      pub too-many-lines : 256 < newlines s → inl TablesTooManyLines ≡ readTables s
+      unfolding readTables
+      too-many-lines h =
+          let l : 256 < length (lines s) = omega (arith, lines-count s ended) in
+          sym (rw (le-ltb _ _ short, ended, lt-ltb _ _ l))
+
+      pub lines-checked : newlines s ≤ 256 → sorted (readRows 0 (lines s)) ≡ readTables s
+      unfolding readTables
+      lines-checked h = sym (rw (le-ltb _ _ short, ended, le-ltb _ _ (few-lines h)))
+
+-- ---- an answer, by its case
+module _ (o : Outcome) (rs : List Row) (x : Refusal ⊎ List Row) (e : asOutcome o rs ≡ x) where
+  pub line-refused : (f : Refusal) → o ≡ Refused f → asOutcome o rs ≡ sorted x
+  line-refused f p = rw (← e, p)
+
+  pub lines-read : o ≡ Accepted → inOrder (sortRows rs) ≡ sorted x
+  lines-read p = rw (← e, p)
+
+module _ (o : Outcome) (rs : List Row) (s out : List ℕ) (e : asOutcome o rs ≡ readTables s) where
+  pub normal-refused : (f : Refusal) → o ≡ Refused f → (inl f, out) ≡ normalised s out
+  unfolding normalised
+  normal-refused f p = rw (← e, p)
+
+  pub normal-written : (r : Normalised) → o ≡ Accepted → r ≡ putText (normalText rs) out → r ≡ normalised s out
+  unfolding normalised
+  normal-written r p q = q ∙ rw (← e, p)
+
+-- ---- a text put at the front of a buffer
+module _ (w out : List ℕ) where
+  pub put-short : (n : ℕ) → n ≡ length w → length out < n → (inl (TablesShort n), out) ≡ putText w out
+  unfolding putText
+  put-short n e h = rw e (sym (rw (lt-ltb (length out) (length w) (omega arith))))
+
+  pub put-fits : (m n : ℕ) (ys : List ℕ) → m ≡ length w → m ≤ length out → Put w 0 out n ys → (inr n, ys) ≡ putText w out
+  unfolding putText
+  put-fits m n ys e h p =
+      let l : n ≡ length w = omega (arith, p .after) in
+      let b : ys ≡ w ++ drop n out = put-whole p (omega arith) in
+      rw (b, l) (sym (rw (le-ltb (length out) (length w) (omega arith))))

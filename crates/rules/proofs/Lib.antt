@@ -1,0 +1,7 @@
+pub mod RowFormat
+pub mod Lines
+pub mod Loops
+pub mod Checks
+pub mod Writing
+pub mod Accepted
+pub mod Theorems

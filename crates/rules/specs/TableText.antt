@@ -1,0 +1,122 @@
+-- Document 01, "Tables and replay": a table text, and what is read from it. That `readRow` reads the texts of `printRow` and no
+-- others is proved in proofs/RowFormat.antt.
+use Prim.Native.Nat.{ℕ, _+_, _<_}
+use mathlib.Core.Bool.{not, cond}
+use mathlib.Core.List.{List, [], _∷_, _++_}
+use mathlib.Core.Logic.{_↔_, _⊎_, inl, inr}
+use mathlib.Core.Option.{Option, none, some}
+use mathlib.Core.Path.{_≡_}
+use lib.Dec.{eqb, ltb}
+use lib.ListN.{length, getElem?}
+use Rattle.lines.specs.Lines.{lines, endsWithLf}
+use Rattle.digits.specs.Reading.{Reader, mapped, keyed, both}
+use Rattle.digits.specs.Number.{readNumber}
+use Rattle.digits.specs.Print.{printNumber}
+use Rattle.flow.specs.Entries.{EntryInRange}
+use Rattle.fields.specs.Print.{printEntry}
+use Rattle.fields.specs.Read.{readEntry}
+use Rattle.fields.specs.Written.{EntryWritten, clearEntry}
+use Rattle.rows.specs.Rows.{row, rowsOf, sortRows}
+use Rattle.rules.specs.Types.{Refusal, TablesTooLong, TablesUnended, TablesTooManyLines, TablesMalformed, TablesAddressBit, KeyTwice, Row, RowRead, RowTaken, RowRefused, Outcome, Accepted, Refused, TablesRead}
+
+-- ---- a line
+-- `sw=`
+abbrev pub switchKey : List ℕ
+switchKey = 115 ∷ 119 ∷ 61 ∷ []
+
+-- the text of a line: switch, then entry
+unfoldable pub printRow : Row → List ℕ
+printRow r = (switchKey ++ printNumber (r .switch)) ++ printEntry (r .entry)
+
+-- a switch of 0 to 15, then an entry
+unfoldable pub rowReader : Reader Row
+rowReader = mapped (λ (w, e). row w e) (both (keyed switchKey (readNumber 15)) readEntry)
+
+-- a row that takes all n bytes of its line
+abbrev pub wholeRow : ℕ → Option (Row × ℕ) → Option Row
+wholeRow n none = none
+wholeRow n (some r) = cond (eqb (r .1) n) (some (r .0)) none
+
+-- the row of a whole line, without its LF
+unfoldable pub readRow : List ℕ → Option Row
+readRow l = wholeRow (length l) (rowReader l 0)
+
+-- what a line can say; an address bit may stand past its prefix
+pub record RowWritten (r : Row) : Type 0 where
+  pub switch : r .switch < 16
+  pub entry : EntryWritten (r .entry)
+
+-- what an accepted line says: switch 0 to 15, and an entry in range
+pub record RowInRange (r : Row) : Type 0 where
+  pub switch : r .switch < 16
+  pub entry : EntryInRange (r .entry)
+
+-- ---- a text
+-- line k is malformed, has an address bit past its prefix, or is a row
+abbrev pub checkRow : ℕ → Option Row → Refusal ⊎ Row
+checkRow k none = inl (TablesMalformed k)
+checkRow k (some r) = cond (clearEntry (r .entry)) (inr r) (inl (TablesAddressBit k))
+
+unfoldable pub readLine : ℕ → List ℕ → Refusal ⊎ Row
+readLine k l = checkRow k (readRow l)
+
+-- a line's row before those of the later lines; the first line that is refused decides
+abbrev pub rowThen : Refusal ⊎ Row → Refusal ⊎ List Row → Refusal ⊎ List Row
+rowThen (inl e) rest = inl e
+rowThen (inr r) (inl e) = inl e
+rowThen (inr r) (inr rs) = inr (r ∷ rs)
+
+-- the rows of the lines from line k on
+unfoldable pub readRows : ℕ → List (List ℕ) → Refusal ⊎ List Row
+readRows k [] = inr []
+readRows k (l ∷ ls) = rowThen (readLine k l) (readRows (k + 1) ls)
+
+-- the rows in order, switches rising, then table order; or the first line whose switch and key stand on an earlier one
+abbrev pub inOrder : ℕ ⊎ List Row → Refusal ⊎ List Row
+inOrder (inl k) = inl (KeyTwice k)
+inOrder (inr rs) = inr rs
+
+abbrev pub sorted : Refusal ⊎ List Row → Refusal ⊎ List Row
+sorted (inl e) = inl e
+sorted (inr rs) = inOrder (sortRows rs)
+
+-- the rows of a table text, in order, or the first refusal: 11, 12, 13; on each line 14, 15; 16
+unfoldable pub readTables : List ℕ → Refusal ⊎ List Row
+readTables s =
+    cond (ltb 65535 (length s)) (inl TablesTooLong)
+    (cond (not (endsWithLf s)) (inl TablesUnended)
+    (cond (ltb 256 (length (lines s))) (inl TablesTooManyLines)
+    (sorted (readRows 0 (lines s)))))
+
+-- ---- what two texts hold
+-- the row stands on line k
+abbrev pub OnLine : List ℕ → ℕ → Row → Type 0
+OnLine s k r = (l : List ℕ) × (getElem? (lines s) k ≡ some l) × (readRow l ≡ some r)
+
+-- the row stands on a line of the text
+abbrev pub Holds : List ℕ → Row → Type 0
+Holds s r = (k : ℕ) × OnLine s k r
+
+-- the texts hold the same entries on the same switches
+abbrev pub HoldSame : List ℕ → List ℕ → Type 0
+HoldSame s t = (r : Row) → Holds s r ↔ Holds t r
+
+-- the switch and key of line k stand on an earlier line
+abbrev pub TwiceOn : List ℕ → ℕ → Type 0
+TwiceOn s k = (j : ℕ) × (x : Row) × (y : Row) × (j < k) × OnLine s j x × OnLine s k y × (x .switch ≡ y .switch) × (x .entry .key ≡ y .entry .key)
+
+-- line k is the lowest such line
+abbrev pub LowestOn : List ℕ → ℕ → Type 0
+LowestOn s k = TwiceOn s k × ((j : ℕ) → j < k → TwiceOn s j → ⊥)
+
+-- ---- what the answers say
+abbrev pub asRow : RowRead → Refusal ⊎ Row
+asRow (RowTaken r) = inr r
+asRow (RowRefused e) = inl e
+
+abbrev pub asOutcome : Outcome → List Row → Refusal ⊎ List Row
+asOutcome Accepted rs = inr rs
+asOutcome (Refused e) rs = inl e
+
+abbrev pub asTables : TablesRead → Refusal ⊎ List Row
+asTables r = asOutcome (r .outcome) (rowsOf (r .rows))

@@ -1,0 +1,111 @@
+// A table text as the rows of its lines, sorted by switch and then in table order.
+use crate::line::RowRead;
+use crate::line::row_line;
+use crate::store::no_rows;
+use crate::store::push;
+use refusals::Refusal;
+use rows::Rows;
+ghost use mathlib.Core.Path.{_≡_};
+ghost use mathlib.Core.Logic.{inl};
+ghost use Prim.Native.Nat.{_≤_};
+ghost use lib.ListN.{length};
+ghost use Rattle.lines.specs.Lines.{lines};
+ghost use Rattle.rows.specs.Rows.{rowsOf, sortRows};
+ghost use Rattle.rules.specs.TableText.{readRows, inOrder, readTables, asTables};
+
+// Whether the text is accepted.
+pub enum Outcome {
+    Accepted,
+    Refused(Refusal),
+}
+
+// The rows count only where the text is accepted.
+pub struct TablesRead {
+    pub outcome: Outcome,
+    pub rows: Rows,
+}
+
+// The rows of the lines, in the order of the lines.
+fn read_rows(text: &[u8]) -> TablesRead
+    requires { ⌜ length (lines (now text)) ≤ 256 ⌝ }
+    ensures { λ r. ⌜ (asTables r ≡ readRows 0 (lines (now (text .entry)))) × (r .rows .len ≤ 256) ⌝ }
+{
+    let mut rows = no_rows();
+    let mut at: usize = 0;
+    while at < text.len() {
+        let rest = &text[at..];
+        let n = lines::line_length(rest);
+        let line = lines::front(rest, n);
+        let k = rows.len;
+        let read = row_line(line, k);
+        match read {
+            RowRead::Refused(e) => {
+                return TablesRead {
+                    outcome: Outcome::Refused(e),
+                    rows,
+                };
+            }
+            RowRead::Read(row) => {
+                rows = push(rows, row);
+            }
+        }
+        at = at + n + 1;
+    }
+    TablesRead {
+        outcome: Outcome::Accepted,
+        rows,
+    }
+}
+
+// A text that is refused.
+fn refused(e: Refusal) -> TablesRead
+    ensures { λ r. ⌜ (asTables r ≡ inl e) × (r .rows .len ≤ 256) ⌝ }
+{
+    let rows = no_rows();
+    TablesRead {
+        outcome: Outcome::Refused(e),
+        rows,
+    }
+}
+
+// The rows of the lines, in order.
+fn sort_rows(lines: Rows) -> TablesRead
+    requires { ⌜ lines .len ≤ 256 ⌝ }
+    ensures { λ r. ⌜ (asTables r ≡ inOrder (sortRows (rowsOf lines))) × (r .rows .len ≤ 256) ⌝ }
+{
+    let sorted = rows::sort(lines);
+    let rows = sorted.rows;
+    if sorted.ok {
+        return TablesRead {
+            outcome: Outcome::Accepted,
+            rows,
+        };
+    }
+    let line = sorted.line;
+    TablesRead {
+        outcome: Outcome::Refused(Refusal::KeyTwice(line)),
+        rows,
+    }
+}
+
+// The rows of a text, in order, or the first refusal.
+pub fn read_tables(text: &[u8]) -> TablesRead
+    ensures { λ r. ⌜ (asTables r ≡ readTables (now (text .entry))) × (r .rows .len ≤ 256) ⌝ }
+{
+    if 65535 < text.len() {
+        return refused(Refusal::TablesTooLong);
+    }
+    if !lines::ends_with_lf(text) {
+        return refused(Refusal::TablesUnended);
+    }
+    if 256 < lines::count_lines(text) {
+        return refused(Refusal::TablesTooManyLines);
+    }
+    let read = read_rows(text);
+    let outcome = read.outcome;
+    let rows = read.rows;
+    match outcome {
+        Outcome::Refused(_) => read,
+        Outcome::Accepted => sort_rows(rows),
+    }
+}

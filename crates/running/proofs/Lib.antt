@@ -1,0 +1,4 @@
+pub mod RunLaws
+pub mod EndTables
+pub mod AnswerLaws
+pub mod Answering

@@ -1,0 +1,57 @@
+-- Document 01, "What an order of events does", on rows: what an order leaves, and the answers, each kept under its event's number.
+use mathlib.Core.Path.{_≡_}
+use mathlib.Core.Bool.{cond}
+use mathlib.Core.Option.{Option, none, some}
+use mathlib.Core.List.{List, [], _∷_}
+use Prim.Native.Nat.{ℕ, _+_, _≤_}
+use lib.Dec.{eqb}
+use lib.ListN.{length, getD, set}
+use Rattle.orders.specs.Orders.{run}
+use Rattle.rows.specs.Rows.{rowsOf}
+use Rattle.rows.specs.Stepping.{stepRows, replyRows}
+use Rattle.events.specs.Events.{eventAt}
+use Rattle.running.specs.Types.{Operation, Answer, Silent, Event, Row, Rows, Kept, Ran}
+
+-- what event i does
+abbrev pub operationAt : List Event → ℕ → Operation
+operationAt es i = eventAt es i .operation
+
+-- the rows after the events of an order, taken from the front: each meets what the one before it left
+unfoldable pub runRows : List Event → List ℕ → List Row → List Row
+runRows es o rs = run (λ i. stepRows (operationAt es i)) o rs
+
+-- what is kept under number i after the order, if a was kept before it
+unfoldable pub keptIn : List Event → ℕ → List ℕ → List Row → Answer → Answer
+keptIn es i [] rs a = a
+keptIn es i (j ∷ o) rs a = keptIn es i o (stepRows (operationAt es j) rs) (cond (eqb i j) (replyRows (operationAt es j) rs) a)
+
+-- the answer of event i, kept under its number; silent where it does not stand in the order
+unfoldable pub answersIn : List Event → List ℕ → List Row → ℕ → Answer
+answersIn es o rs i = keptIn es i o rs Silent
+
+-- the answer, or a where there is none
+abbrev pub givenOr : Answer → Option Answer → Answer
+givenOr a none = a
+givenOr a (some b) = b
+
+-- the answers that an array keeps
+abbrev pub kept : Answer → Kept
+kept a = record { answer = a }
+
+abbrev pub noAnswer : Kept
+noAnswer = kept Silent
+
+abbrev pub keptAt : List Kept → ℕ → Answer
+keptAt ks i = getD ks i noAnswer .answer
+
+-- what one event more gives
+pub record TurnsTo (o : Operation) (i : ℕ) (before after : Ran) : Type 0 where
+  pub rows : rowsOf (after .rows) ≡ stepRows o (rowsOf (before .rows))
+  pub answers : after .answers ≡ set (before .answers) i (kept (replyRows o (rowsOf (before .rows))))
+  pub size : after .rows .len ≤ before .rows .len + 1
+
+-- what running an order from the starting rows gives: the rows, the answers, and at most one row more for each event
+pub record RunsTo (es : List Event) (o : List ℕ) (start : Rows) (r : Ran) : Type 0 where
+  pub rows : rowsOf (r .rows) ≡ runRows es o (rowsOf start)
+  pub answers : (i : ℕ) → keptAt (r .answers) i ≡ answersIn es o (rowsOf start) i
+  pub size : r .rows .len ≤ start .len + length o

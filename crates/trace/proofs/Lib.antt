@@ -1,0 +1,3 @@
+pub mod TokenChecks
+pub mod LineReading
+pub mod Checks

@@ -16,6 +16,9 @@ ghost use mathlib.Core.Path.{_≡_};
 ghost use Rattle.eventline.specs.declared.words.Word.the-variants as W;
 ghost use Rattle.eventline.specs.EventLine.{readOperation, asOperation};
 
+// Switches are 0 to 15.
+const LAST_SWITCH: u32 = 15;
+
 // An operation that was read and the place after it, or no such operation.
 pub enum OperationRead {
     Read { value: Operation, next: usize },
@@ -29,7 +32,7 @@ fn barrier_at(s: &[u8], at: usize) -> OperationRead
     let Number::Read {
         value: switch,
         next,
-    } = number_at(s, at, b" sw=", 15)
+    } = number_at(s, at, b" sw=", LAST_SWITCH)
     else {
         return OperationRead::Bad;
     };
@@ -47,7 +50,7 @@ fn message_at(s: &[u8], at: usize) -> OperationRead
     let Number::Read {
         value: switch,
         next,
-    } = number_at(s, at, b" sw=", 15)
+    } = number_at(s, at, b" sw=", LAST_SWITCH)
     else {
         return OperationRead::Bad;
     };
@@ -65,7 +68,7 @@ fn lookup_at(s: &[u8], at: usize) -> OperationRead
     let Number::Read {
         value: switch,
         next: n,
-    } = number_at(s, at, b" sw=", 15)
+    } = number_at(s, at, b" sw=", LAST_SWITCH)
     else {
         return OperationRead::Bad;
     };
@@ -89,7 +92,7 @@ fn add_at(s: &[u8], at: usize) -> OperationRead
     let Number::Read {
         value: switch,
         next: n,
-    } = number_at(s, at, b" sw=", 15)
+    } = number_at(s, at, b" sw=", LAST_SWITCH)
     else {
         return OperationRead::Bad;
     };
@@ -109,7 +112,7 @@ fn add_checked_at(s: &[u8], at: usize) -> OperationRead
     let Number::Read {
         value: switch,
         next: n,
-    } = number_at(s, at, b" sw=", 15)
+    } = number_at(s, at, b" sw=", LAST_SWITCH)
     else {
         return OperationRead::Bad;
     };
@@ -129,7 +132,7 @@ fn modify_strict_at(s: &[u8], at: usize) -> OperationRead
     let Number::Read {
         value: switch,
         next: n,
-    } = number_at(s, at, b" sw=", 15)
+    } = number_at(s, at, b" sw=", LAST_SWITCH)
     else {
         return OperationRead::Bad;
     };
@@ -149,7 +152,7 @@ fn modify_at(s: &[u8], at: usize) -> OperationRead
     let Number::Read {
         value: switch,
         next: n,
-    } = number_at(s, at, b" sw=", 15)
+    } = number_at(s, at, b" sw=", LAST_SWITCH)
     else {
         return OperationRead::Bad;
     };
@@ -169,7 +172,7 @@ fn delete_strict_at(s: &[u8], at: usize) -> OperationRead
     let Number::Read {
         value: switch,
         next: n,
-    } = number_at(s, at, b" sw=", 15)
+    } = number_at(s, at, b" sw=", LAST_SWITCH)
     else {
         return OperationRead::Bad;
     };
@@ -189,7 +192,7 @@ fn delete_at(s: &[u8], at: usize) -> OperationRead
     let Number::Read {
         value: switch,
         next: n,
-    } = number_at(s, at, b" sw=", 15)
+    } = number_at(s, at, b" sw=", LAST_SWITCH)
     else {
         return OperationRead::Bad;
     };

@@ -4,15 +4,17 @@ use native.Mathlib.Omega.{arith}
 use mathlib.Core.Path.{_≡_, refl, sym, ap, _∙_}
 use mathlib.Core.Bool.{true, false}
 use mathlib.Core.List.{List, _++_}
+use mathlib.Core.Logic.{_⊎_, inl, inr}
 use lib.Dec.{ltb}
 use lib.ListN.{length, length-take, take, drop}
 use lib.Seq.{sets, sets-eq, take-at, take-all}
 use borrow.Author.Tests.{lt-ltb, le-ltb}
 use Rattle.events.specs.Events.{eventsOf}
+use Rattle.trace.specs.TraceText.{readTrace, asOutcome, asTrace}
 use Rattle.pairs.specs.List.{listed, listOf, count, pairBytes, needed, countsOf}
 use Rattle.pairs.proofs.PairLaws.{bytes-length, below-most, all-rows}
-use Rattle.races.specs.Types.{Event, Trace, Counts, Counted, Refused, ListShort}
-use Rattle.races.specs.Races.{answerFor, bufferAfter}
+use Rattle.races.specs.Types.{Event, Trace, Counts, Refusal, ListAnswer, Counted, Refused, ListShort, Outcome, TraceRead}
+use Rattle.races.specs.Races.{answerFor, bufferAfter, answerTo, bufferOf, listAnswer, listBuffer}
 
 pub events-most : (t : Trace) → t .len ≤ 256 → length (eventsOf t) ≤ 256
 unfolding eventsOf
@@ -59,3 +61,19 @@ module _ (es : List Event) (c : Counts) (e : c ≡ countsOf es) (old : List ℕ)
         rw t (o ∙ ap (λ (x : List ℕ). x ++ drop (length src) old) (take-all (length src) src (omega arith) ∙ w)
             ∙ ap (λ (n : ℕ). pairBytes (listOf es) ++ drop n old) (ap length w ∙ bytes-needed es)),
       )
+
+-- the call on a text, by the outcome of reading it
+module _ (text : List ℕ) (read : TraceRead) (e : asTrace read ≡ readTrace text) where
+  pub call-refused : (r : Refusal) (old : List ℕ) → read .outcome ≡ Outcome.Refused r → (Refused r ≡ listAnswer text (length old)) × (old ≡ listBuffer text old)
+  unfolding listAnswer listBuffer
+  call-refused r old f =
+      let g : inl r ≡ readTrace text = sym (ap (λ (o : Outcome). asOutcome o (eventsOf (read .trace))) f) ∙ e in
+      (ap (λ (x : Refusal ⊎ List Event). answerTo x (length old)) g, ap (λ (x : Refusal ⊎ List Event). bufferOf x old) g)
+
+  pub call-accepted : (a : ListAnswer) (old out : List ℕ) → read .outcome ≡ Outcome.Accepted
+      → a ≡ answerFor (eventsOf (read .trace)) (length old) → out ≡ bufferAfter (eventsOf (read .trace)) old
+      → (a ≡ listAnswer text (length old)) × (out ≡ listBuffer text old)
+  unfolding listAnswer listBuffer
+  call-accepted a old out f h k =
+      let g : inr (eventsOf (read .trace)) ≡ readTrace text = sym (ap (λ (o : Outcome). asOutcome o (eventsOf (read .trace))) f) ∙ e in
+      (h ∙ ap (λ (x : Refusal ⊎ List Event). answerTo x (length old)) g, k ∙ ap (λ (x : Refusal ⊎ List Event). bufferOf x old) g)

@@ -1,11 +1,13 @@
--- Document 01, "The list" and refusal 31: what the list call answers, and its buffer afterwards.
+-- Document 01, "The list" and refusals 1 to 8 and 31: what the list call answers, and its buffer afterwards.
 use mathlib.Core.Bool.{cond}
 use mathlib.Core.List.{List, _++_}
+use mathlib.Core.Logic.{_⊎_, inl, inr}
 use Prim.Native.Nat.{ℕ}
 use lib.Dec.{ltb}
 use lib.ListN.{length, drop}
 use Rattle.pairs.specs.List.{listOf, pairBytes, needed, countsOf}
-use Rattle.races.specs.Types.{Event, ListAnswer, Counted, Refused, ListShort}
+use Rattle.trace.specs.TraceText.{readTrace}
+use Rattle.races.specs.Types.{Event, Refusal, ListAnswer, Counted, Refused, ListShort}
 
 -- for the events of an accepted trace and a buffer of so many bytes: too short, the bytes needed; else the four counts
 unfoldable pub answerFor : List Event → ℕ → ListAnswer
@@ -14,3 +16,19 @@ answerFor es room = cond (ltb room (needed es)) (Refused (ListShort (needed es))
 -- the buffer afterwards: too short, as it was; else the list from its start, and the bytes after it unchanged
 unfoldable pub bufferAfter : List Event → List ℕ → List ℕ
 bufferAfter es old = cond (ltb (length old) (needed es)) old (pairBytes (listOf es) ++ drop (needed es) old)
+
+-- a trace that is refused: its refusal, and the buffer as it was
+abbrev pub answerTo : Refusal ⊎ List Event → ℕ → ListAnswer
+answerTo (inl r) room = Refused r
+answerTo (inr es) room = answerFor es room
+
+abbrev pub bufferOf : Refusal ⊎ List Event → List ℕ → List ℕ
+bufferOf (inl r) old = old
+bufferOf (inr es) old = bufferAfter es old
+
+-- the list call on a trace's text
+unfoldable pub listAnswer : List ℕ → ℕ → ListAnswer
+listAnswer text room = answerTo (readTrace text) room
+
+unfoldable pub listBuffer : List ℕ → List ℕ → List ℕ
+listBuffer text old = bufferOf (readTrace text) old

@@ -8,3 +8,5 @@ pub use Rattle.events.specs.declared.trace.Trace.{Trace}
 pub use Rattle.pairs.specs.declared.counts.Counts.{Counts}
 pub use Rattle.races.specs.declared.answer.ListAnswer.{ListAnswer}
 pub use Rattle.races.specs.declared.answer.ListAnswer.the-variants.{Counts as Counted, Refused}
+pub use Rattle.trace.specs.declared.text.Outcome.{Outcome}
+pub use Rattle.trace.specs.declared.text.TraceRead.{TraceRead}

@@ -4,4 +4,4 @@ pub mod listing;
 pub mod report;
 
 pub use answer::ListAnswer;
-pub use listing::list;
+pub use listing::list_races;

@@ -2,15 +2,16 @@
 use crate::answer::ListAnswer;
 use events::Trace;
 use refusals::Refusal;
+use trace::Outcome;
 ghost use mathlib.Core.Path.{_≡_};
 ghost use Prim.Native.Nat.{_≤_};
 ghost use lib.ListN.{length};
 ghost use Rattle.events.specs.Events.{eventsOf};
-ghost use Rattle.races.specs.Races.{answerFor, bufferAfter};
+ghost use Rattle.races.specs.Races.{answerFor, bufferAfter, listAnswer, listBuffer};
 
 // The listed pairs from the buffer's start and the four counts; where the buffer is too short, the bytes needed. The list is made
 // in a buffer of its own, so that nothing is written before its length is known.
-pub fn list(t: Trace, out: &mut [u8]) -> ListAnswer
+fn list(t: Trace, out: &mut [u8]) -> ListAnswer
     requires { ⌜ t .len ≤ 256 ⌝ }
     ensures { λ r. ⌜ r ≡ answerFor (eventsOf t) (length (now (out .entry))) ⌝ }
     ensures { λ r. ⌜ now (out .exit) ≡ bufferAfter (eventsOf t) (now (out .entry)) ⌝ }
@@ -24,4 +25,20 @@ pub fn list(t: Trace, out: &mut [u8]) -> ListAnswer
     }
     bytes::copy(&pairs[..needed], out);
     ListAnswer::Counts(counts)
+}
+
+// The list of a trace: the listed pairs from the buffer's start and the four counts, or what is refused.
+pub fn list_races(trace: &[u8], out: &mut [u8]) -> ListAnswer
+    ensures { λ r. ⌜ r ≡ listAnswer (now (trace .entry)) (length (now (out .entry))) ⌝ }
+    ensures { λ r. ⌜ now (out .exit) ≡ listBuffer (now (trace .entry)) (now (out .entry)) ⌝ }
+{
+    let read = trace::read_trace(trace);
+    let outcome = read.outcome;
+    match outcome {
+        Outcome::Refused(r) => ListAnswer::Refused(r),
+        Outcome::Accepted => {
+            let events = read.trace;
+            list(events, out)
+        }
+    }
 }

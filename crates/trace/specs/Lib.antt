@@ -1,3 +1,4 @@
 pub mod Types
 pub mod Search
 pub mod TraceText
+pub mod Meaning

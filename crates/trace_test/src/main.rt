@@ -1,0 +1,59 @@
+// Reads the trace texts of its data files: the number of events, or the refusal with the refused line. What must come out is in the
+// file `stdout`.
+use libc::STDOUT_FILENO;
+use trace::Outcome;
+
+// The files 000 and on: accepted texts; then refusals 1, 2 and 3; then malformed lines, item by item; then 5, 6, 7, 8 and texts with
+// several faults.
+const CASES: u8 = 150;
+
+fn answer(text: &[u8], outcome: Outcome, events: usize) {
+    match outcome {
+        Outcome::Accepted => {
+            report::field(b"accepted events=", events as u64);
+            report::end_line();
+        }
+        Outcome::Refused(r) => {
+            report::refused(text, b"", r);
+        }
+    }
+}
+
+fn read_text(text: &[u8]) {
+    let result = trace::read_trace(text);
+    let outcome = result.outcome;
+    let events = result.trace;
+    answer(text, outcome, events.len);
+}
+
+fn read_file(path: &[u8]) {
+    let fd = os::open_read(path);
+    if fd < 0 {
+        os::fail(path);
+        return;
+    }
+    let mut buf = io::large_buffer();
+    let input = input::read_all(fd, &mut buf);
+    if input.ok {
+        let n = input.len;
+        read_text(&buf[..n]);
+    } else {
+        os::fail(path);
+    }
+    libc::close(fd);
+}
+
+// The file that a number names by its three digits.
+fn numbered(i: u8) {
+    let name = [b'0' + i / 100 % 10, b'0' + i / 10 % 10, b'0' + i % 10];
+    io::write_all(STDOUT_FILENO, b"text ");
+    io::write_all(STDOUT_FILENO, &name);
+    report::end_line();
+    read_file(&name);
+}
+
+fn main() {
+    for i in 0..CASES {
+        numbered(i);
+    }
+}

@@ -33,9 +33,8 @@ fn read_rows(text: &[u8]) -> TablesRead
     let mut rows = no_rows();
     let mut at: usize = 0;
     while at < text.len() {
-        let rest = &text[at..];
-        let n = lines::line_length(rest);
-        let line = lines::front(rest, n);
+        let line = reader::line_at(text, at);
+        let next = reader::after_line(text, at);
         let k = rows.len;
         let read = row_line(line, k);
         match read {
@@ -49,7 +48,7 @@ fn read_rows(text: &[u8]) -> TablesRead
                 rows = push(rows, row);
             }
         }
-        at = at + n + 1;
+        at = next;
     }
     TablesRead {
         outcome: Outcome::Accepted,

@@ -1,18 +1,16 @@
 -- The lines of a trace, read one by one.
-use Prim.Native.Nat.{ℕ, suc, _+_, _-_, _≤_, _<_}
+use Prim.Native.Nat.{ℕ, _+_, _-_, _≤_, _<_}
 use mathlib.Core.List.{List, [], _∷_, _++_, append-assoc, append-nil}
 use mathlib.Core.Logic.{_⊎_, inl, inr}
 use mathlib.Core.Path.{_≡_, refl, sym, _∙_, ap}
-use native.Mathlib.Nat.{add-assoc}
 use native.Mathlib.Omega.{arith}
-use lib.ListN.{length, take, drop, drop-of-length-le, length-drop}
-use lib.Seq.{drop-drop, take-all}
-use Rattle.lines.specs.Lines.{lines, lineLength}
-use Rattle.lines.proofs.Lines.{lines-cons}
+use lib.ListN.{length, drop, drop-of-length-le}
+use Rattle.lines.specs.Lines.{lines}
+use Rattle.reader.proofs.Reading.{Lined}
 use Rattle.events.specs.Events.{eventsOf}
 use Rattle.eventline.specs.EventLine.{readEvent}
 use Rattle.trace.specs.Types.{Refusal, Event, Trace}
-use Rattle.trace.specs.TraceText.{inFront, onEvent, readLines}
+use Rattle.trace.specs.TraceText.{inFront, readLines}
 
 -- the events of the lines before, and then those of the rest
 abbrev behind : List Event → Refusal ⊎ List Event → Refusal ⊎ List Event
@@ -43,29 +41,20 @@ module _ (text : List ℕ) (trace : Trace) (at k : ℕ) (g : Reading text trace 
       let z : drop at text ≡ [] = drop-of-length-le text h in
       ap inr (sym (append-nil (eventsOf trace))) ∙ ap (λ (u : List ℕ). behind (eventsOf trace) (readLines k (lines u))) (sym z) ∙ g .same
 
-  module _ (h : at < length text) (n : ℕ) (e : n ≡ lineLength (take (length text - at) (drop at text)))
-      (line : List ℕ) (f : line ≡ take n (take (length text - at) (drop at text))) where
-    rest : take (length text - at) (drop at text) ≡ drop at text
-    rest = take-all (length text - at) (drop at text) (simp length-drop (omega arith))
-
-    some : 0 < length (drop at text)
-    some = simp length-drop (omega arith)
-
-    first : lines (drop at text) ≡ line ∷ lines (drop (at + n + 1) text)
-    first = lines-cons (drop at text) some ∙ rw (f, e, rest, drop-drop, add-assoc) refl
-
+  module _ (line : List ℕ) (next : ℕ) (first : Lined text at line next) where
     pub here-room : k < 256
+    unfolding Lined
     here-room = omega (arith, ap length first, g .room)
 
     pub reading-refused : {r : Refusal} → readEvent k line ≡ inl r → inl r ≡ readLines 0 (lines text)
-    unfolding readLines
+    unfolding readLines Lined
     reading-refused {r} q = sym (sym (g .same) ∙ rw (first, q) refl)
 
-    pub reading-more : {v : Event} (next : Trace) → readEvent k line ≡ inr v → eventsOf next ≡ eventsOf trace ++ (v ∷ []) → next .len ≡ trace .len + 1
-        → Reading text next (at + n + 1) (k + 1)
-    unfolding readLines
-    reading-more {v} next q p l =
-        let x = readLines (k + 1) (lines (drop (at + n + 1) text)) in
+    pub reading-more : {v : Event} (longer : Trace) → readEvent k line ≡ inr v → eventsOf longer ≡ eventsOf trace ++ (v ∷ []) → longer .len ≡ trace .len + 1
+        → Reading text longer next (k + 1)
+    unfolding readLines Lined
+    reading-more {v} longer q p l =
+        let x = readLines (k + 1) (lines (drop next text)) in
         let turn : behind (eventsOf trace) (readLines k (lines (drop at text))) ≡ behind (eventsOf trace) (inFront v x) = rw (first, q) refl in
         record {
           count = l ∙ rw (g .count) refl;

@@ -7,8 +7,8 @@ use eventline::event_line;
 use events::Trace;
 use lines::count_lines;
 use lines::ends_with_lf;
-use lines::front;
-use lines::line_length;
+use reader::after_line;
+use reader::line_at;
 use refusals::Refusal;
 ghost use mathlib.Core.Path.{_≡_};
 ghost use Prim.Native.Nat.{_≤_};
@@ -37,15 +37,14 @@ fn read_lines(text: &[u8]) -> TraceRead
     let mut at: usize = 0;
     let mut k: usize = 0;
     while at < text.len() {
-        let rest = &text[at..];
-        let n = line_length(rest);
-        let line = front(rest, n);
+        let line = line_at(text, at);
+        let next = after_line(text, at);
         let read = event_line(line, k);
         match read {
             EventRead::Read(e) => {
-                let next = trace.push(e);
-                trace = next;
-                at = at + n + 1;
+                let longer = trace.push(e);
+                trace = longer;
+                at = next;
                 k = k + 1;
             }
             EventRead::Refused(r) => {

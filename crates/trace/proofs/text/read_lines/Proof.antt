@@ -1,11 +1,10 @@
 -- The invariant: k lines are read, and with them what the rest reads as is what all does.
-use Prim.Native.Nat.{_-_, _+_, _≤_, _<_}
-use mathlib.Core.Path.{_≡_, sym, _∙_, ap}
+use Prim.Native.Nat.{_-_, _<_}
 use native.Mathlib.Omega.{arith}
 use denote.Ref.{now}
 use lib.ListN.{length}
 use borrow.Author.Needs.{needs}
-use Rattle.lines.proofs.Laws.{at-room}
+use Rattle.reader.proofs.Reading.{Lined, lined, gets-on}
 use Rattle.digits.proofs.Readers.{seen}
 use Rattle.eventline.specs.EventLine.{asEvent}
 use Rattle.trace.proofs.LineReading.{Reading, reading-start, reading-end, here-room, reading-refused, reading-more}
@@ -21,44 +20,39 @@ abbrev μ-loop : tie.MeasureT-loop
 loop-holds : tie.Need-loop-holds Inv-loop μ-loop
 loop-holds c = reading-start _ _ (c .before .before .pre) (c .empty .ensures .0) (c .empty .ensures .1)
 
+-- the line at the place, and those after it
+here : (a : tie.After-after-line Inv-loop μ-loop) → Lined (now (a .before .before .before .before .before .before .args .text)) (a .before .before .before .loop .at) (now (a .before .line-at .result)) (a .after-line .result)
+here a = lined _ _ (a .before .before .loop-test .taken) _ (a .before .line-at .ensures) _ (a .after-line .ensures)
+
 -- a line is there, so there is room for its event
-room : (c : tie.After-front Inv-loop μ-loop) → c .before .before .before .before .loop .k < 256
-room c =
-    let l = c .before .before .before .before in
-    here-room _ _ _ _ (l .loop .inv) (c .before .before .before .loop-test .taken) _ (c .before .line-length .ensures) _ (c .front .ensures)
+room : (a : tie.After-after-line Inv-loop μ-loop) → a .before .before .before .loop .k < 256
+room a = here-room _ _ _ _ (a .before .before .before .loop .inv) _ _ (here a)
 
 push-requires : tie.Need-push-requires Inv-loop μ-loop
 push-requires c κs =
-    let f = c .before .before .before .before in
-    omega (arith, room f, f .before .before .before .before .loop .inv .count)
-
--- the place after the line lies within the text, but for its LF
-within : (c : tie.After-line-length Inv-loop μ-loop) → c .before .before .before .loop .at + c .line-length .result ≤ length (now (c .before .before .before .before .before .before .args .text))
-within c = at-room (now (c .before .before .before .before .before .before .args .text)) _ _ (c .before .before .loop-test .taken) (c .line-length .ensures)
-
-add-at : tie.Need-add-at Inv-loop μ-loop
-add-at c = omega (arith, within (c .before .before .before .before .before .before))
-
-add-at-2 : tie.Need-add-at-2 Inv-loop μ-loop
-add-at-2 c = omega (arith, within (c .before .before .before .before .before .before))
+    let a = c .before .before .before .before in
+    omega (arith, room a, a .before .before .before .loop .inv .count)
 
 add-k : tie.Need-add-k Inv-loop μ-loop
 add-k c = omega (arith, room (c .before .before .before .before .before))
 
+loop-less : tie.Need-loop-less Inv-loop μ-loop
+loop-less c =
+    let a = c .before .before .before .before .before in
+    omega (arith, gets-on _ _ (a .before .before .loop-test .taken) _ (a .after-line .ensures))
+
 loop-again : tie.Need-loop-again Inv-loop μ-loop
 loop-again c =
-    let f = c .before .before .before .before .before in
-    let l = f .before .before .before .before in
-    reading-more _ _ _ _ (l .loop .inv) (f .before .before .before .loop-test .taken) _ (f .before .line-length .ensures) _ (f .front .ensures) _
+    let a = c .before .before .before .before .before in
+    reading-more _ _ _ _ (a .before .before .before .loop .inv) _ _ (here a) _
     (seen asEvent (c .before .before .before .before .event-line .ensures) (c .before .before .read .given .1)) (c .push .ensures .0) (c .push .ensures .1)
 
 returns : tie.Need-returns Inv-loop μ-loop
 returns c =
-    let f = c .before .before .before .before in
-    let l = f .before .before .before .before in (
-      reading-refused _ _ _ _ (l .loop .inv) (f .before .before .before .loop-test .taken) _ (f .before .line-length .ensures) _ (f .front .ensures)
-          (seen asEvent (c .before .before .before .event-line .ensures) (c .before .read2 .given .1)),
-      omega (arith, l .loop .inv .count, l .loop .inv .room),
+    let a = c .before .before .before .before in
+    let l = a .before .before .before .loop .inv in (
+      reading-refused _ _ _ _ l _ _ (here a) (seen asEvent (c .before .before .before .event-line .ensures) (c .before .read2 .given .1)),
+      omega (arith, l .count, l .room),
     )
 
 returns-2 : tie.Need-returns-2 Inv-loop μ-loop
@@ -72,11 +66,10 @@ read-lines-spec =
     (tie.spec
     Inv-loop
     μ-loop (λ c κs. search needs)
-    loop-holds (λ c. search needs) (λ c. search needs) (λ c. search needs) (λ c κs. search needs) (λ c κs. search needs) (λ c κs. search needs) (λ c. search needs)
+    loop-holds (λ c κs. search needs) (λ c κs. search needs) (λ c κs. search needs) (λ c. search needs)
     push-requires
-    add-at
-    add-at-2
-    add-k (λ c. omega arith)
+    add-k
+    loop-less
     loop-again (λ c. search needs)
     returns
     returns-2)

@@ -4,13 +4,13 @@ use crate::verdict::Verdict;
 use crate::verdict::verdict_of;
 use events::Trace;
 ghost use mathlib.Core.Path.{_≡_};
-ghost use Prim.Native.Nat.{_+_, _*_, _<_, _≤_};
+ghost use Prim.Native.Nat.{_+_, _≤_};
 ghost use lib.ListN.{length};
 ghost use lib.Seq.{sets};
 ghost use Rattle.events.specs.Events.{eventsOf};
 ghost use Rattle.causality.specs.Rows.{HappensBefore};
-ghost use Rattle.pairs.specs.List.{Kind, listed, only, pairBytes, listOf, countsOf};
-ghost use Rattle.pairs.specs.Counting.{counts, countOf, rowOf};
+ghost use Rattle.pairs.specs.List.{listed, only, pairBytes, listOf, countsOf};
+ghost use Rattle.pairs.specs.Counting.{counts};
 
 // The pair i, j at a place of the list, if its verdict is that it is listed.
 fn put_listed(list: &mut [u8], at: usize, i: u8, j: u8, v: Verdict)
@@ -28,31 +28,8 @@ fn put_listed(list: &mut [u8], at: usize, i: u8, j: u8, v: Verdict)
     }
 }
 
-// The pairs whose lower event is i: counted on, and the listed ones put after those that stand there.
-fn scan_row(t: Trace, rows: &[[u64; 4]; 256], i: usize, c: Counts, list: &mut [u8]) -> Counts
-    requires { ⌜ (i < t .len) × (t .len ≤ 256) × (131072 ≤ length (now list)) ⌝ }
-    requires { ⌜ HappensBefore (eventsOf t) (now rows) ⌝ }
-    requires { ⌜ ((k : Kind) → countOf k c ≤ i * 256) ⌝ }
-    ensures { λ r. ⌜ ((k : Kind) → countOf k r ≡ countOf k c + length (rowOf k (eventsOf t) i (t .len))) ⌝ }
-    ensures { λ r. ⌜ now (list .exit) ≡ sets (now (list .entry)) (2 * c .listed) (pairBytes (rowOf listed (eventsOf t) i (t .len))) ⌝ }
-{
-    let n = t.len;
-    let first = t.events[i];
-    let a = first.operation;
-    let mut sum = c;
-    for j in i + 1..n {
-        let second = t.events[j];
-        let b = second.operation;
-        let ordered = causality::is_before(rows, i as u8, j as u8);
-        let v = verdict_of(a, b, ordered);
-        put_listed(list, 2 * sum.listed, i as u8, j as u8, v);
-        let next = sum.with(v);
-        sum = next;
-    }
-    sum
-}
-
-// All pairs: the four counts, and the listed pairs from the list's start.
+// All pairs: the four counts, and the listed pairs from the list's start. Both loops stand here, since an inner call would copy the
+// events at each turn.
 pub fn scan(t: Trace, rows: &[[u64; 4]; 256], list: &mut [u8]) -> Counts
     requires { ⌜ (t .len ≤ 256) × (131072 ≤ length (now list)) ⌝ }
     requires { ⌜ HappensBefore (eventsOf t) (now rows) ⌝ }
@@ -62,8 +39,17 @@ pub fn scan(t: Trace, rows: &[[u64; 4]; 256], list: &mut [u8]) -> Counts
     let n = t.len;
     let mut sum = Counts::none();
     for i in 0..n {
-        let next = scan_row(t, rows, i, sum, list);
-        sum = next;
+        let first = t.events[i];
+        let a = first.operation;
+        for j in i + 1..n {
+            let second = t.events[j];
+            let b = second.operation;
+            let ordered = causality::is_before(rows, i as u8, j as u8);
+            let v = verdict_of(a, b, ordered);
+            put_listed(list, 2 * sum.listed, i as u8, j as u8, v);
+            let next = sum.with(v);
+            sum = next;
+        }
     }
     sum
 }

@@ -3,7 +3,6 @@ use Prim.Native.Nat.{ℕ, _≤_, _<_}
 use mathlib.Core.Bool.{true, false}
 use mathlib.Core.List.{List}
 use mathlib.Core.Logic.{_⊎_, inl, inr}
-use mathlib.Core.Option.{none, some}
 use mathlib.Core.Path.{_≡_, refl, sym, _∙_, ap}
 use borrow.Author.Tests.{lt-ltb, le-ltb}
 use lib.ListN.{length}
@@ -11,24 +10,26 @@ use Rattle.lines.specs.Lines.{lines, newlines, endsWithLf}
 use Rattle.lines.proofs.Lines.{lines-count}
 use Rattle.events.specs.Events.{eventsOf}
 use Rattle.events.proofs.TraceLaws.{length-events}
-use Rattle.trace.specs.Types.{Refusal, TraceTooLong, TraceUnended, TraceTooManyLines, TokenTwice, TokenTooEarly, Event, Trace, Outcome, TraceRead}
+use Rattle.trace.specs.Types.{Refusal, TraceTooLong, TraceUnended, TraceTooManyLines, TokenTwice, TokenTooEarly, Event, Trace, Place, Outcome, TraceRead}
 use Rattle.trace.specs.Search.{lowest}
-use Rattle.trace.specs.TraceText.{twice, tooEarly, checkTokens, onEvents, readLines, readTrace, asOutcome, asTrace}
+use Rattle.trace.specs.TraceText.{twice, tooEarly, refusedAt, checkTokens, onEvents, readLines, readTrace, asPlace, asOutcome, asTrace}
 
--- ---- 7, then 8
-module _ (t : Trace) (fits : t .len ≤ length (t .events)) where
-  pub found-twice : {j : ℕ} → lowest (twice (eventsOf t)) (t .len) ≡ some j → inl (TokenTwice j) ≡ checkTokens (eventsOf t)
+-- ---- 7, then 8, by what the two searches answered
+module _ (t : Trace) (fits : t .len ≤ length (t .events)) (x y : Place)
+    (sought : asPlace x ≡ lowest (twice (eventsOf t)) (t .len)) (sought₂ : asPlace y ≡ lowest (tooEarly (eventsOf t)) (t .len)) where
+  tokens-checked : refusedAt TokenTwice (asPlace x) (refusedAt TokenTooEarly (asPlace y) (inr (eventsOf t))) ≡ checkTokens (eventsOf t)
   unfolding checkTokens
-  found-twice e = rw (length-events t fits, e) refl
+  tokens-checked = rw (length-events t fits, sought, sought₂) refl
 
-  module _ (once : lowest (twice (eventsOf t)) (t .len) ≡ none) where
-    pub found-early : {i : ℕ} → lowest (tooEarly (eventsOf t)) (t .len) ≡ some i → inl (TokenTooEarly i) ≡ checkTokens (eventsOf t)
-    unfolding checkTokens
-    found-early e = rw (length-events t fits, once, e) refl
+  pub found-twice : {j : ℕ} → x ≡ Place.At j → inl (TokenTwice j) ≡ checkTokens (eventsOf t)
+  found-twice e = rw e at tokens-checked
 
-    pub found-none : lowest (tooEarly (eventsOf t)) (t .len) ≡ none → inr (eventsOf t) ≡ checkTokens (eventsOf t)
-    unfolding checkTokens
-    found-none e = rw (length-events t fits, once, e) refl
+  module _ (once : x ≡ Place.Nowhere) where
+    pub found-early : {i : ℕ} → y ≡ Place.At i → inl (TokenTooEarly i) ≡ checkTokens (eventsOf t)
+    found-early e = rw (once, e) at tokens-checked
+
+    pub found-none : y ≡ Place.Nowhere → inr (eventsOf t) ≡ checkTokens (eventsOf t)
+    found-none e = rw (once, e) at tokens-checked
 
 -- ---- what was answered
 pub refused-as : (a : TraceRead) {r : Refusal} → a .outcome ≡ Outcome.Refused r → asTrace a ≡ inl r

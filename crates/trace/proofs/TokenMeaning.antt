@@ -16,7 +16,7 @@ use Rattle.orders.specs.Orders.{has}
 use Rattle.events.specs.Events.{anyOf, shares}
 use Rattle.trace.specs.Types.{Event}
 use Rattle.trace.specs.Search.{anyBelow, lowestFrom, lowest}
-use Rattle.trace.specs.TraceText.{insAt, outsAt, twice, tooEarly}
+use Rattle.trace.specs.TraceText.{insAt, outsAt, putsOut, twice, tooEarly}
 use Rattle.trace.specs.Meaning.{TwiceAt, EarlyAt, LowestLine}
 
 -- ---- some number below n
@@ -53,32 +53,36 @@ shares-of : (ss ts : List ℕ) (t : ℕ) → has t ss ≡ true → has t ts ≡ 
 unfolding shares
 shares-of ss ts t h k = token-any (λ u. has u ts) ss t h k
 
+-- ---- some line puts out one of the tokens
+line-found : (es : List Event) (tokens : List ℕ) (from to : ℕ) → putsOut es tokens from to ≡ true
+    → (k : ℕ) × (from ≤ k) × (k < to) × (t : ℕ) × (has t tokens ≡ true) × (has t (outsAt es k) ≡ true)
+unfolding putsOut
+line-found es tokens from to h =
+    let r = any-below _ to h in
+    let s = shared tokens (outsAt es (r .0)) (and-right (leb from (r .0)) _ (r .2)) in
+    (r .0, leb-true from (r .0) (and-left _ (shares tokens (outsAt es (r .0))) (r .2)), r .1, s .0, s .1, s .2)
+
+line-finds : (es : List Event) (tokens : List ℕ) (from to k t : ℕ) → from ≤ k → k < to → has t tokens ≡ true → has t (outsAt es k) ≡ true
+    → putsOut es tokens from to ≡ true
+unfolding putsOut
+line-finds es tokens from to k t a b h g = below-any _ to k b (and-intro (le-leb from k a) (shares-of tokens (outsAt es k) t h g))
+
 -- 7: the test says yes of line j exactly if a token stands in `out` of j and of an earlier line
 pub twice-iff : (es : List Event) (j : ℕ) → (twice es j ≡ true) ↔ TwiceAt es j
 unfolding twice
 twice-iff es j = (
-  λ h. let r = any-below (λ i. shares (outsAt es i) (outsAt es j)) j h in
-      let s = shared (outsAt es (r .0)) (outsAt es j) (r .2) in
-      record { token = s .0; line = r .0; earlier = r .1; first = s .1; second = s .2 },
-  λ w. below-any (λ i. shares (outsAt es i) (outsAt es j)) j (w .line) (w .earlier) (shares-of (outsAt es (w .line)) (outsAt es j) (w .token) (w .first) (w .second)),
+  λ h. let (k, a, b, t, s, f) = line-found es (outsAt es j) 0 j h in
+      record { token = t; line = k; earlier = b; first = f; second = s },
+  λ w. line-finds es (outsAt es j) 0 j (w .line) (w .token) (omega arith) (w .earlier) (w .second) (w .first),
 )
 
 -- 8: the test says yes of line i exactly if an `in` token of it is put out on this or a later line
 pub early-iff : (es : List Event) (i : ℕ) → (tooEarly es i ≡ true) ↔ EarlyAt es i
 unfolding tooEarly
 early-iff es i = (
-  λ h. let r = any-below (λ j. leb i j && shares (insAt es i) (outsAt es j)) (length es) h in
-      let s = shared (insAt es i) (outsAt es (r .0)) (and-right (leb i (r .0)) (shares (insAt es i) (outsAt es (r .0))) (r .2)) in
-      record {
-        token = s .0;
-        line = r .0;
-        later = leb-true i (r .0) (and-left (leb i (r .0)) (shares (insAt es i) (outsAt es (r .0))) (r .2));
-        inside = r .1;
-        taken = s .1;
-        given = s .2;
-      },
-  λ w. below-any (λ j. leb i j && shares (insAt es i) (outsAt es j)) (length es) (w .line) (w .inside)
-      (and-intro (le-leb i (w .line) (w .later)) (shares-of (insAt es i) (outsAt es (w .line)) (w .token) (w .taken) (w .given))),
+  λ h. let (k, a, b, t, s, f) = line-found es (insAt es i) i (length es) h in
+      record { token = t; line = k; later = a; inside = b; taken = s; given = f },
+  λ w. line-finds es (insAt es i) i (length es) (w .line) (w .token) (w .later) (w .inside) (w .taken) (w .given),
 )
 
 -- ---- the lowest

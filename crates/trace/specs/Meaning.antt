@@ -1,5 +1,5 @@
--- Document 01, "Refusal table" 7 and 8, in its words: what the two checks of the tokens look for. (`twice-iff`, `early-iff` and
--- `tokens-checked`, proofs/TokenMeaning.antt, say that they find just this.)
+-- Document 01, "Refusal table" 7 and 8, in its words: what the two checks of the tokens look for. (`twice-iff` and `early-iff`,
+-- proofs/TokenMeaning.antt, `token-twice-line` and `token-early-line`, proofs/Accepted.antt, say that they find just this.)
 use mathlib.Core.Path.{_≡_}
 use mathlib.Core.Bool.{true}
 use mathlib.Core.List.{List, [], _∷_}

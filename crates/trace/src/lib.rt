@@ -1,6 +1,6 @@
 // The whole text of a trace: its events, or what is refused.
 pub mod text; // the checks of the text and its lines
-pub mod tokens; // the checks of the tokens over the trace
+mod tokens; // the checks of the tokens over the trace
 
 pub use text::Outcome;
 pub use text::TraceRead;

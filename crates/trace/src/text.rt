@@ -1,7 +1,5 @@
 // The text of a trace: its limits, its lines from the first, its tokens.
-use crate::tokens::Place;
-use crate::tokens::token_too_early;
-use crate::tokens::token_twice;
+use crate::tokens::check_tokens;
 use eventline::EventRead;
 use eventline::event_line;
 use events::Trace;
@@ -14,8 +12,7 @@ ghost use mathlib.Core.Path.{_≡_};
 ghost use Prim.Native.Nat.{_≤_};
 ghost use lib.ListN.{length};
 ghost use Rattle.lines.specs.Lines.{lines};
-ghost use Rattle.events.specs.Events.{eventsOf};
-ghost use Rattle.trace.specs.TraceText.{readLines, readTrace, checkTokens, asOutcome, asTrace};
+ghost use Rattle.trace.specs.TraceText.{readLines, readTrace, asTrace};
 
 pub enum Outcome {
     Accepted,
@@ -59,22 +56,6 @@ fn read_lines(text: &[u8]) -> TraceRead
         outcome: Outcome::Accepted,
         trace,
     }
-}
-
-// A token twice, then a token too early.
-fn check_tokens(t: Trace) -> Outcome
-    requires { ⌜ t .len ≤ 256 ⌝ }
-    ensures { λ r. ⌜ asOutcome r (eventsOf t) ≡ checkTokens (eventsOf t) ⌝ }
-{
-    let place = token_twice(t);
-    if let Place::At(j) = place {
-        return Outcome::Refused(Refusal::TokenTwice(j));
-    }
-    let place = token_too_early(t);
-    if let Place::At(i) = place {
-        return Outcome::Refused(Refusal::TokenTooEarly(i));
-    }
-    Outcome::Accepted
 }
 
 // The refusal of a text, with no events.

@@ -39,8 +39,8 @@ fn read_lines(text: &[u8]) -> TraceRead
         let read = event_line(line, k);
         match read {
             EventRead::Read(e) => {
-                let longer = trace.push(e);
-                trace = longer;
+                trace.events[k] = e;
+                trace.len = k + 1;
                 at = next;
                 k = k + 1;
             }

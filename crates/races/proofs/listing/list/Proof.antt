@@ -4,8 +4,9 @@ use mathlib.Core.Path.{refl, sym, ap}
 use lib.ListN.{length, replicate, length-replicate}
 use lib.Seq.{length-sets, length-take-le}
 use Rattle.events.specs.Events.{eventsOf}
-use Rattle.pairs.specs.List.{listOf, pairBytes}
-use Rattle.races.proofs.ListLaws.{events-most, listed-most, listed-is, list-short, list-done}
+use Rattle.pairs.specs.List.{listed, listOf, pairBytes}
+use Rattle.races.proofs.ListLaws.{events-most, listed-is, list-short, list-done}
+use Rattle.races.proofs.Sizes.{count-most}
 use borrow.Author.Needs.{needs}
 use Rattle.races.proofs.listing.list.Statement.{statement}
 use Rattle.races.proofs.listing.list.Tie as tie
@@ -17,7 +18,7 @@ mul-needed : tie.Need-mul-needed
 mul-needed c =
     let s = c .before .before .before .before .before .before .before in
     let es = eventsOf (s .args .t) in
-    omega (arith, listed-is es (c .before .before .scan .result) (c .before .before .scan .ensures .0), listed-most es (events-most (s .args .t) (s .pre)))
+    omega (arith, listed-is es (c .before .before .scan .result) (c .before .before .scan .ensures .0), count-most listed es (events-most (s .args .t) (s .pre)))
 
 returns : tie.Need-returns
 returns c = list-short _ (c .before .before .before .scan .result) (c .before .before .before .scan .ensures .0) _ (c .if1 .taken)
@@ -27,7 +28,7 @@ buffer-fits : (c : tie.Else1) → 2 * c .before .before .before .scan .result .l
 buffer-fits c =
     let s = c .before .before .before .before .before .before .before .before in
     let es = eventsOf (s .args .t) in
-    omega (arith, listed-is es (c .before .before .before .scan .result) (c .before .before .before .scan .ensures .0), listed-most es (events-most (s .args .t) (s .pre)))
+    omega (arith, listed-is es (c .before .before .before .scan .result) (c .before .before .before .scan .ensures .0), count-most listed es (events-most (s .args .t) (s .pre)))
 
 prefix-fits : (c : tie.Else1) → 2 * c .before .before .before .scan .result .listed ≤ length (c .before .before .before .scan .last .1 .1 .0)
 prefix-fits c = omega (arith, buffer-fits c, ap length (c .before .before .before .scan .ensures .1), length-sets (replicate 131072 0) 0 (pairBytes (listOf (eventsOf (c .before .before .before .before .before .before .before .before .args .t)))), length-replicate {A = ℕ} 131072 0)

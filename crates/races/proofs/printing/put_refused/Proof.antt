@@ -2,8 +2,8 @@ use mathlib.Core.Path.{refl}
 use Rattle.digits.proofs.Writing.{put-then, put-none}
 use Rattle.races.proofs.ReportLaws.{refused-arm}
 use borrow.Author.Needs.{needs}
-use Rattle.races.proofs.report.put_refused.Statement.{statement}
-use Rattle.races.proofs.report.put_refused.Tie as tie
+use Rattle.races.proofs.printing.put_refused.Statement.{statement}
+use Rattle.races.proofs.printing.put_refused.Tie as tie
 
 enum-told : tie.Need-enum-told
 enum-told c = search needs

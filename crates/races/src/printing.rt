@@ -1,5 +1,6 @@
 // What `racelist` prints, put into a buffer.
 use crate::answer::ListAnswer;
+use crate::listing::list_races;
 use digits::put_byte;
 use digits::put_bytes;
 use digits::put_number;
@@ -11,7 +12,8 @@ ghost use Prim.Native.Nat.{_+_, _≤_, _<_, _^_};
 ghost use lib.ListN.{length};
 ghost use Rattle.digits.specs.Print.{Put};
 ghost use Rattle.refusals.specs.Refusals.{placeOf};
-ghost use Rattle.races.specs.Report.{item, raceLine, raceLines, countsLine, refusalLine, refusedText, answerText, SmallCounts, Printable};
+ghost use Rattle.pairs.specs.Counting.{Small};
+ghost use Rattle.races.specs.Report.{item, raceLine, raceLines, countsLine, refusalLine, refusedText, reportText};
 
 // A key and its number.
 fn put_item(out: &mut [u8], at: usize, key: &[u8], v: u32) -> usize
@@ -52,7 +54,7 @@ fn put_races(out: &mut [u8], list: &[u8]) -> usize
 
 // `pairs=2 ordered=1 commuting=0 listed=1`
 fn put_counts(out: &mut [u8], at: usize, c: Counts) -> usize
-    requires { ⌜ (at < 2 ^ 30) × SmallCounts c ⌝ }
+    requires { ⌜ (at < 2 ^ 30) × Small c ⌝ }
     ensures { λ r. ⌜ Put (countsLine c) at (now (out .entry)) r (now (out .exit)) ⌝ }
 {
     let p = put_item(out, at, b"pairs=", c.pairs as u32);
@@ -101,11 +103,13 @@ fn put_refused(out: &mut [u8], trace: &[u8], refusal: Refusal) -> usize
     }
 }
 
-// The whole report on a list call: its answer and the buffer that it wrote.
-fn put_answer(out: &mut [u8], trace: &[u8], answer: ListAnswer, list: &[u8]) -> usize
-    requires { ⌜ Printable answer (now list) ⌝ }
-    ensures { λ r. ⌜ Put (answerText (now (trace .entry)) answer (now (list .entry))) 0 (now (out .entry)) r (now (out .exit)) ⌝ }
+// What `racelist` prints of a trace. No list takes more than 65,280 bytes, so that the list call never finds its buffer short.
+pub fn report(trace: &[u8], out: &mut [u8]) -> usize
+    ensures { λ r. ⌜ Put (reportText (now (trace .entry))) 0 (now (out .entry)) r (now (out .exit)) ⌝ }
+    ensures { λ r. ⌜ r ≤ 425000 ⌝ }
 {
+    let mut list = [0u8; 65536];
+    let answer = list_races(trace, &mut list);
     match answer {
         ListAnswer::Counts(c) => {
             let n = 2 * c.listed;

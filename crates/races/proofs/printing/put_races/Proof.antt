@@ -8,8 +8,8 @@ use Rattle.digits.specs.Print.{Put}
 use Rattle.digits.proofs.Writing.{put-none, put-length}
 use Rattle.races.specs.Report.{raceLines}
 use Rattle.races.proofs.ReportLaws.{races-turn, races-done}
-use Rattle.races.proofs.report.put_races.Statement.{statement}
-use Rattle.races.proofs.report.put_races.Tie as tie
+use Rattle.races.proofs.printing.put_races.Statement.{statement}
+use Rattle.races.proofs.printing.put_races.Tie as tie
 
 abbrev Inv-loop : tie.InvT-loop
 Inv-loop out₀ list at₀ i₀ out at i =

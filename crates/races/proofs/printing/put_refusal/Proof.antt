@@ -2,8 +2,8 @@ use native.Mathlib.Omega.{arith}
 use Rattle.digits.proofs.Writing.{put-then, put-one}
 use Rattle.races.proofs.ReportLaws.{refusal-put}
 use borrow.Author.Needs.{needs}
-use Rattle.races.proofs.report.put_refusal.Statement.{statement}
-use Rattle.races.proofs.report.put_refusal.Tie as tie
+use Rattle.races.proofs.printing.put_refusal.Statement.{statement}
+use Rattle.races.proofs.printing.put_refusal.Tie as tie
 
 returns : tie.Need-returns
 returns c = (

@@ -2,8 +2,8 @@ use native.Mathlib.Omega.{arith}
 use Rattle.digits.proofs.Writing.{put-then, print-length}
 use Rattle.races.specs.Report.{item}
 use borrow.Author.Needs.{needs}
-use Rattle.races.proofs.report.put_item.Statement.{statement}
-use Rattle.races.proofs.report.put_item.Tie as tie
+use Rattle.races.proofs.printing.put_item.Statement.{statement}
+use Rattle.races.proofs.printing.put_item.Tie as tie
 
 returns : tie.Need-returns
 unfolding item

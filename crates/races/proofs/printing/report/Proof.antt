@@ -35,7 +35,7 @@ put-races-requires c κs =
     omega (arith, length-take-le (2 * c .before .before .before .before .answer .given .0 .0 .listed) (c .before .before .before .before .before .before .before .list-races .last .1 .0) (l .room), l .most)
 
 put-counts-requires : tie.Need-put-counts-requires
-put-counts-requires c κs = (c .before .before .before .put-races .ensures .1, listing (c .before .before .before .before .before .before) .small)
+put-counts-requires c κs = (omega (arith, c .before .before .before .put-races .ensures .1), listing (c .before .before .before .before .before .before) .small)
 
 put-refused-requires : tie.Need-put-refused-requires
 put-refused-requires c κs = place-small _ _ (refusal (c .before .before))

@@ -1,2 +1,6 @@
 pub mod ListLaws
 pub mod ReportLaws
+pub mod Refused
+pub mod Sizes
+pub mod Theorems
+pub mod Answered

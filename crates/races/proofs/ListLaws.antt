@@ -12,17 +12,13 @@ use borrow.Author.Tests.{lt-ltb, le-ltb}
 use Rattle.events.specs.Events.{eventsOf}
 use Rattle.trace.specs.TraceText.{readTrace, asOutcome, asTrace}
 use Rattle.pairs.specs.List.{listed, listOf, count, pairBytes, needed, countsOf}
-use Rattle.pairs.proofs.PairLaws.{bytes-length, below-most, all-rows}
+use Rattle.pairs.proofs.PairLaws.{bytes-length}
 use Rattle.races.specs.Types.{Event, Trace, Counts, Refusal, ListAnswer, Counted, Refused, ListShort, Outcome, TraceRead}
 use Rattle.races.specs.Races.{answerFor, bufferAfter, answerTo, bufferOf, listAnswer, listBuffer}
 
 pub events-most : (t : Trace) → t .len ≤ 256 → length (eventsOf t) ≤ 256
 unfolding eventsOf
 events-most t h = omega (arith, length-take (t .len) (t .events))
-
--- at most 65536 pairs are listed of 256 events
-pub listed-most : (es : List Event) → length es ≤ 256 → count listed es ≤ 65536
-listed-most es l = omega (arith, ap length (all-rows listed es (length es)), below-most listed es (length es) (length es) l)
 
 -- the number of listed pairs, as the code has it
 pub listed-is : (es : List Event) (c : Counts) → c ≡ countsOf es → c .listed ≡ count listed es

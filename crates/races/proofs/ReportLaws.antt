@@ -1,15 +1,15 @@
 -- Texts of a report, put one behind another. Assumes nothing.
-use Prim.Native.Nat.{ℕ, suc, _+_, _*_, _<_, _≤_, _^_}
+use Prim.Native.Nat.{ℕ, suc, _+_, _<_, _≤_}
 use native.Mathlib.Omega.{arith}
 use mathlib.Core.Path.{_≡_, refl, sym, ap, ap₂, subst, _∙_}
 use mathlib.Core.List.{List, [], _∷_, _++_, append-assoc, append-nil}
-use lib.ListN.{length, take, drop, getD, length-drop}
+use lib.ListN.{length, drop, getD, length-drop}
 use lib.Seq.{drop-cons}
 use Rattle.digits.specs.Print.{Put}
 use Rattle.digits.proofs.Writing.{put-then}
 use Rattle.refusals.specs.Refusals.{numberOf, placeOf, sourceOf, lineOf}
-use Rattle.races.specs.Types.{Counts, Refusal, Source, ListAnswer, Counted, Refused}
-use Rattle.races.specs.Report.{item, raceLine, raceLines, refusalLine, lineText, refusedText, countsLine, answerText, SmallCounts, Printable}
+use Rattle.races.specs.Types.{Refusal, Source}
+use Rattle.races.specs.Report.{item, raceLine, raceLines, refusalLine, lineText, refusedText}
 
 -- the pair at place i of a list, and the rest
 next-pair : (list : List ℕ) (i : ℕ) → i + 1 < length list → raceLines (drop i list) ≡ raceLine (getD list i 0) (getD list (i + 1) 0) ++ raceLines (drop (i + 2) list)
@@ -54,20 +54,3 @@ pub refused-arm : (trace : List ℕ) (r : Refusal) (line : List ℕ) {s form : S
 unfolding refusedText
 refused-arm trace r line {n = n} {old = old} {out = out} e f g h =
     subst (λ (t : List ℕ). Put t 0 old n out) (ap₂ (λ (a : Source) (b : List ℕ). refusalLine r ++ lineText a b) (sym f ∙ e) g) h
-
--- the arms of the match on an answer
-module _ {a : ListAnswer} (list : List ℕ) where
-  pub counts-printable : (c : Counts) → a ≡ Counted c → Printable a list → SmallCounts c × (2 * c .listed ≤ length list)
-  counts-printable c e p = subst (λ (x : ListAnswer). Printable x list) e p
-
-  pub refused-printable : (r : Refusal) → a ≡ Refused r → Printable a list → placeOf r < 2 ^ 32
-  refused-printable r e p = subst (λ (x : ListAnswer). Printable x list) e p
-
-module _ (trace list : List ℕ) {a : ListAnswer} {n : ℕ} {old out : List ℕ} where
-  pub counts-answer : (c : Counts) → a ≡ Counted c → Put (raceLines (take (2 * c .listed) list) ++ countsLine c) 0 old n out → Put (answerText trace a list) 0 old n out
-  unfolding answerText
-  counts-answer c e p = subst (λ (x : ListAnswer). Put (answerText trace x list) 0 old n out) (sym e) p
-
-  pub refused-answer : (r : Refusal) → a ≡ Refused r → Put (refusedText trace r) 0 old n out → Put (answerText trace a list) 0 old n out
-  unfolding answerText
-  refused-answer r e p = subst (λ (x : ListAnswer). Put (answerText trace x list) 0 old n out) (sym e) p

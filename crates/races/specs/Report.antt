@@ -1,10 +1,12 @@
 -- Document 01, "Program and worked lines": what `racelist` prints.
 use mathlib.Core.List.{List, [], _∷_, _++_}
-use Prim.Native.Nat.{ℕ, _*_, _<_, _≤_, _^_}
-use lib.ListN.{take, length}
+use mathlib.Core.Logic.{_⊎_, inl, inr}
+use Prim.Native.Nat.{ℕ}
 use Rattle.digits.specs.Print.{printNumber}
 use Rattle.refusals.specs.Refusals.{numberOf, placeOf, sourceOf, lineOf}
-use Rattle.races.specs.Types.{Counts, Refusal, Source, Neither, InTrace, InTables, ListAnswer, Counted, Refused}
+use Rattle.pairs.specs.List.{listOf, pairBytes, countsOf}
+use Rattle.trace.specs.TraceText.{readTrace}
+use Rattle.races.specs.Types.{Event, Counts, Refusal, Source, Neither, InTrace, InTables}
 
 -- a key and its number
 unfoldable pub item : List ℕ → ℕ → List ℕ
@@ -42,22 +44,18 @@ lineText Neither line = []
 lineText InTrace line = line ++ (10 ∷ [])
 lineText InTables line = line ++ (10 ∷ [])
 
+-- number and place, then the refused line, except for 1, 2 and 3
 unfoldable pub refusedText : List ℕ → Refusal → List ℕ
 refusedText trace r = refusalLine r ++ lineText (sourceOf r) (lineOf trace [] r)
 
--- the whole, of a trace's text, the call's answer and the list's buffer
-unfoldable pub answerText : List ℕ → ListAnswer → List ℕ → List ℕ
-answerText trace (Counted c) list = raceLines (take (2 * c .listed) list) ++ countsLine c
-answerText trace (Refused r) list = refusedText trace r
+-- of the events of an accepted trace: a race line for each listed pair in the list's order, then the counts line
+unfoldable pub listText : List Event → List ℕ
+listText es = raceLines (pairBytes (listOf es)) ++ countsLine (countsOf es)
 
--- counts that the list of at most 256 events can have
-pub record SmallCounts (c : Counts) : Type 0 where
-  pub pairs-small : c .pairs ≤ 65536
-  pub ordered-small : c .ordered ≤ 65536
-  pub commuting-small : c .commuting ≤ 65536
-  pub listed-small : c .listed ≤ 65536
+abbrev pub textOf : List ℕ → Refusal ⊎ List Event → List ℕ
+textOf trace (inl r) = refusedText trace r
+textOf trace (inr es) = listText es
 
--- an answer that can be printed, with the list's buffer
-abbrev pub Printable : ListAnswer → List ℕ → Type 0
-Printable (Counted c) list = SmallCounts c × (2 * c .listed ≤ length list)
-Printable (Refused r) list = placeOf r < 2 ^ 32
+-- what `racelist` prints of a trace's text
+unfoldable pub reportText : List ℕ → List ℕ
+reportText trace = textOf trace (readTrace trace)

@@ -19,7 +19,8 @@ fn list(t: Trace, out: &mut [u8]) -> ListAnswer
     let rows = causality::happens_before(t);
     let mut pairs = [0u8; 131072];
     let counts = pairs::scan(t, &rows, &mut pairs);
-    let needed = 2 * counts.listed;
+    let listed = counts.listed;
+    let needed = 2 * listed;
     if out.len() < needed {
         return ListAnswer::Refused(Refusal::ListShort(needed));
     }

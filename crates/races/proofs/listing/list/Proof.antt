@@ -4,8 +4,9 @@ use mathlib.Core.Path.{refl, sym, ap}
 use lib.ListN.{length, replicate, length-replicate}
 use lib.Seq.{length-sets, length-take-le}
 use Rattle.events.specs.Events.{eventsOf}
-use Rattle.pairs.specs.List.{listOf, pairBytes}
-use Rattle.races.proofs.ListLaws.{events-most, listed-most, listed-is, list-short, list-done}
+use Rattle.pairs.specs.List.{listed, listOf, pairBytes}
+use Rattle.races.proofs.ListLaws.{events-most, listed-is, list-short, list-done}
+use Rattle.races.proofs.Sizes.{count-most}
 use borrow.Author.Needs.{needs}
 use Rattle.races.proofs.listing.list.Statement.{statement}
 use Rattle.races.proofs.listing.list.Tie as tie
@@ -13,37 +14,34 @@ use Rattle.races.proofs.listing.list.Tie as tie
 scan-requires : tie.Need-scan-requires
 scan-requires c κs = ((c .before .before .before .before .pre, search needs), c .before .before .happens-before .ensures)
 
-mul-needed : tie.Need-mul-needed
-mul-needed c =
-    let s = c .before .before .before .before .before .before .before in
+-- the list's own buffer is long enough for all pairs
+buffer-fits : (c : tie.After-pairs2) → 2 * c .before .scan .result .listed ≤ 131072
+buffer-fits c =
+    let s = c .before .before .before .before .before .before in
     let es = eventsOf (s .args .t) in
-    omega (arith, listed-is es (c .before .before .scan .result) (c .before .before .scan .ensures .0), listed-most es (events-most (s .args .t) (s .pre)))
+    omega (arith, listed-is es (c .before .scan .result) (c .before .scan .ensures .0), count-most listed es (events-most (s .args .t) (s .pre)))
+
+prefix-fits : (c : tie.After-pairs2) → 2 * c .before .scan .result .listed ≤ length (c .before .scan .last .1 .1 .0)
+prefix-fits c = omega (arith, buffer-fits c, ap length (c .before .scan .ensures .1), length-sets (replicate 131072 0) 0 (pairBytes (listOf (eventsOf (c .before .before .before .before .before .before .args .t)))), length-replicate {A = ℕ} 131072 0)
+
+mul-needed : tie.Need-mul-needed
+mul-needed c = omega (arith, buffer-fits c)
 
 returns : tie.Need-returns
-returns c = list-short _ (c .before .before .before .scan .result) (c .before .before .before .scan .ensures .0) _ (c .if1 .taken)
-
--- the list's own buffer is long enough for all pairs
-buffer-fits : (c : tie.Else1) → 2 * c .before .before .before .scan .result .listed ≤ 131072
-buffer-fits c =
-    let s = c .before .before .before .before .before .before .before .before in
-    let es = eventsOf (s .args .t) in
-    omega (arith, listed-is es (c .before .before .before .scan .result) (c .before .before .before .scan .ensures .0), listed-most es (events-most (s .args .t) (s .pre)))
-
-prefix-fits : (c : tie.Else1) → 2 * c .before .before .before .scan .result .listed ≤ length (c .before .before .before .scan .last .1 .1 .0)
-prefix-fits c = omega (arith, buffer-fits c, ap length (c .before .before .before .scan .ensures .1), length-sets (replicate 131072 0) 0 (pairBytes (listOf (eventsOf (c .before .before .before .before .before .before .before .before .args .t)))), length-replicate {A = ℕ} 131072 0)
+returns c = list-short _ (c .before .before .scan .result) (c .before .before .scan .ensures .0) _ (omega (arith, c .if1 .taken))
 
 array-share-prefix-pairs : tie.Need-array-share-prefix-pairs
-array-share-prefix-pairs c = prefix-fits c
+array-share-prefix-pairs c = prefix-fits (c .before)
 
 slice-aggregate-copy : tie.Need-slice-aggregate-copy
-slice-aggregate-copy c = sym (length-take-le _ _ (prefix-fits (c .before)))
+slice-aggregate-copy c = sym (length-take-le _ _ (prefix-fits (c .before .before)))
 
 copy-requires : tie.Need-copy-requires
-copy-requires c κs = omega (arith, length-take-le (2 * c .before .before .before .before .before .scan .result .listed) (c .before .before .before .before .before .scan .last .1 .1 .0) (prefix-fits (c .before .before)))
+copy-requires c κs = omega (arith, length-take-le (2 * c .before .before .before .before .scan .result .listed) (c .before .before .before .before .scan .last .1 .1 .0) (prefix-fits (c .before .before .before)))
 
 returns-2 : tie.Need-returns-2
 returns-2 c =
-    list-done _ (c .before .before .before .before .before .before .before .before .scan .result) (c .before .before .before .before .before .before .before .before .scan .ensures .0) _ _ _ _ _ (c .before .before .before .before .before .before .before .before .scan .ensures .1) (buffer-fits (c .before .before .before .before .before)) (omega arith) refl (c .before .before .copy .ensures .1)
+    list-done _ (c .before .before .before .before .before .before .before .scan .result) (c .before .before .before .before .before .before .before .scan .ensures .0) _ _ _ _ _ (c .before .before .before .before .before .before .before .scan .ensures .1) (buffer-fits (c .before .before .before .before .before .before)) (omega arith) refl (c .before .before .copy .ensures .1)
 
 pub list-spec : {M : Type 1} → statement M
 list-spec =

@@ -1,0 +1,23 @@
+// Reads a trace from standard input, and writes its races and their counts, or what is refused, to standard output.
+use libc::STDIN_FILENO;
+use libc::STDOUT_FILENO;
+
+// What is printed takes at most 425,000 bytes, and goes out with one write.
+fn answer(trace: &[u8]) {
+    let mut out = [0u8; 425000];
+    let n = races::report(trace, &mut out);
+    if !io::write_all(STDOUT_FILENO, &out[..n]) {
+        os::fail(b"standard output");
+    }
+}
+
+fn main() {
+    let mut buf = io::large_buffer();
+    let input = input::read_all(STDIN_FILENO, &mut buf);
+    if !input.ok {
+        os::fail(b"standard input");
+        return;
+    }
+    let n = input.len;
+    answer(&buf[..n]);
+}

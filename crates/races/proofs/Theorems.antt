@@ -1,0 +1,40 @@
+-- What `racelist` prints of an accepted trace (`report-lists`), and which pairs those are (`listed-exactly`). Assumes nothing.
+use Prim.Native.Nat.{ℕ, zero, suc, _<_}
+use native.Mathlib.Omega.{arith}
+use mathlib.Core.Path.{_≡_, ap}
+use mathlib.Core.List.{List, [], _∷_, _++_, List·Memᴰ}
+use mathlib.Core.Logic.{_↔_, inl, inr}
+use lib.ListN.{length}
+use Rattle.events.specs.Events.{eventAt}
+use Rattle.eventline.specs.Written.{EventInRange}
+use Rattle.eventline.proofs.EventRanges.{event-range}
+use Rattle.trace.specs.TraceText.{readTrace}
+use Rattle.trace.specs.Meaning.{AllWritten}
+use Rattle.trace.proofs.Accepted.{accepted-iff}
+use Rattle.pairs.specs.List.{listOf, pairBytes, countsOf}
+use Rattle.pairs.specs.Racing.{Racing, EventsInRange}
+use Rattle.pairs.proofs.Theorems.{listed-iff}
+use Rattle.races.specs.Types.{Event, Refusal}
+use Rattle.races.specs.Report.{raceLines, countsLine, refusedText, listText, textOf, reportText}
+
+event-in-range : (es : List Event) → AllWritten es → (k : ℕ) → k < length es → EventInRange (eventAt es k)
+event-in-range [] w k l = absurd (omega arith)
+event-in-range (e ∷ es) w zero l = event-range e (w .0 .0) (w .0 .1)
+event-in-range (e ∷ es) w (suc k) l = event-in-range es (w .1) k (omega arith)
+
+-- what the events of an accepted trace do to a table is in range
+pub accepted-in-range : (s : List ℕ) (es : List Event) → readTrace s ≡ inr es → EventsInRange es
+accepted-in-range s es h k l = event-in-range es (accepted-iff s es .0 h .written) k l .effect
+
+-- THE list of an accepted trace text: events i and j stand in it exactly if they race
+pub listed-exactly : (s : List ℕ) (es : List Event) → readTrace s ≡ inr es → (i j : ℕ) → List·Memᴰ (record { lower = i; higher = j }) (listOf es) ↔ Racing es i j
+listed-exactly s es h i j = listed-iff es (accepted-in-range s es h) i j
+
+-- of an accepted trace a race line for each pair of that list, in its order, and the counts line; of any other the refusal
+pub report-lists : (s : List ℕ) (es : List Event) → readTrace s ≡ inr es → reportText s ≡ raceLines (pairBytes (listOf es)) ++ countsLine (countsOf es)
+unfolding reportText listText
+report-lists s es h = ap (textOf s) h
+
+pub report-refuses : (s : List ℕ) (r : Refusal) → readTrace s ≡ inl r → reportText s ≡ refusedText s r
+unfolding reportText
+report-refuses s r h = ap (textOf s) h

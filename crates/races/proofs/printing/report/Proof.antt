@@ -1,0 +1,62 @@
+-- The list call fills a buffer of its own, which every list fits; what it left there is printed.
+use Prim.Native.Nat.{ℕ, _*_}
+use native.Mathlib.Omega.{arith}
+use mathlib.Core.Path.{_≡_, sym}
+use mathlib.Core.Logic.{inl}
+use lib.ListN.{replicate, length-replicate}
+use lib.Seq.{length-take-le}
+use Rattle.digits.proofs.Writing.{put-then}
+use Rattle.trace.specs.TraceText.{readTrace}
+use Rattle.races.proofs.Answered.{Listing, call-counts, call-refusal, counts-put, refused-put, place-small}
+use borrow.Author.Needs.{needs}
+use Rattle.races.proofs.printing.report.Statement.{statement}
+use Rattle.races.proofs.printing.report.Tie as tie
+
+-- what the call left, where it counts
+listing : (c : tie.After-struct-known) → Listing (c .before .before .before .before .before .before .before .before .before .args .trace .now) (c .before .before .before .before .before .list-races .last .1 .0) (c .before .before .answer .given .0 .0)
+listing c = call-counts _ (replicate 65536 0) (length-replicate {A = ℕ} 65536 0) (c .before .before .before .before .before .list-races .ensures .0) (c .before .before .before .before .before .list-races .ensures .1) _ (c .before .before .answer .given .1)
+
+-- the trace's own refusal, where it refuses
+refusal : (c : tie.After-answer2) → readTrace (c .before .before .before .before .before .before .before .args .trace .now) ≡ inl (c .answer2 .given .0 .0)
+refusal c = call-refusal _ (replicate 65536 0) (length-replicate {A = ℕ} 65536 0) (c .before .before .before .list-races .ensures .0) _ (c .answer2 .given .1)
+
+mul-n : tie.Need-mul-n
+mul-n c = omega (arith, listing c .most)
+
+array-share-prefix-list : tie.Need-array-share-prefix-list
+array-share-prefix-list c = listing (c .before) .room
+
+slice-aggregate-put-races : tie.Need-slice-aggregate-put-races
+slice-aggregate-put-races c = sym (length-take-le _ _ (listing (c .before .before) .room))
+
+put-races-requires : tie.Need-put-races-requires
+put-races-requires c κs =
+    let l = listing (c .before .before) in
+    omega (arith, length-take-le (2 * c .before .before .before .before .answer .given .0 .0 .listed) (c .before .before .before .before .before .before .before .list-races .last .1 .0) (l .room), l .most)
+
+put-counts-requires : tie.Need-put-counts-requires
+put-counts-requires c κs = (omega (arith, c .before .before .before .put-races .ensures .1), listing (c .before .before .before .before .before .before) .small)
+
+put-refused-requires : tie.Need-put-refused-requires
+put-refused-requires c κs = place-small _ _ (refusal (c .before .before))
+
+returns : tie.Need-returns
+returns c =
+    counts-put _ _ _ (listing (c .before .before .before .before .before .before .before .before .before))
+    (put-then (c .before .before .before .before .before .before .put-races .ensures .0) (c .before .before .put-counts .ensures))
+
+returns-2 : tie.Need-returns-2
+returns-2 c = refused-put _ _ (refusal (c .before .before .before .before .before)) (c .before .before .put-refused .ensures)
+
+pub report-spec : {M : Type 1} → statement M
+report-spec =
+    tie.close
+    (tie.spec (λ c. search needs) (λ c κs. search needs) (λ c. search needs)
+    mul-n
+    array-share-prefix-list
+    slice-aggregate-put-races
+    put-races-requires
+    put-counts-requires (λ c. search needs)
+    put-refused-requires (λ c. search needs)
+    returns (λ c. search needs)
+    returns-2)

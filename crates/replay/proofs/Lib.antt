@@ -1,0 +1,4 @@
+pub mod Recorded
+pub mod SameTexts
+pub mod Refusing
+pub mod Demand3

@@ -2,3 +2,4 @@ pub mod Recorded
 pub mod SameTexts
 pub mod Refusing
 pub mod Demand3
+pub mod Leaving

@@ -15,16 +15,14 @@ use Rattle.causality.specs.Causality.{before}
 use Rattle.causality.proofs.Chains.{before-iff}
 use Rattle.pairs.proofs.Theorems.{list-is-orders-listed}
 use Rattle.rules.specs.TableText.{readTables, HoldSame}
-use Rattle.rules.specs.Normal.{normalText}
 use Rattle.rules.proofs.Theorems.{normal-accepted, same-normal}
 use Rattle.schedule.proofs.Accepted.{recorded-order}
 use Rattle.running.specs.Types.{Silent}
 use Rattle.running.specs.Running.{operationAt, runRows, answersIn, givenOr}
-use Rattle.running.specs.Answers.{answersText}
 use Rattle.running.proofs.EndTables.{run-tables, run-answers, run-sorted}
 use Rattle.replay.specs.Types.{Event, Row}
 use Rattle.replay.specs.Allowed.{recorded, Allowed}
-use Rattle.replay.specs.Replay.{textsOf}
+use Rattle.replay.specs.Replay.{bothTexts, textsOf}
 
 module _ (es : List Event) (o : List ℕ) (allowed : Allowed es o) where
   keeps-before : (i j : ℕ) → i < j → j < length es → before es i j ≡ true → stands i j o ≡ true
@@ -56,7 +54,7 @@ module _ (es : List Event) (o : List ℕ) (allowed : Allowed es o) where
     -- both texts are those of the recorded order
     pub same-texts : textsOf es o rs ≡ textsOf es (recorded es) rs
     unfolding textsOf
-    same-texts = λ i. record { tables = normalText (end-rows i); answers = answersText (fun-ext row-answers i) (length es) }
+    same-texts = λ i. bothTexts (end-rows i) (fun-ext row-answers i) (length es)
 
 -- accepted texts that hold the same entries on the same switches have the same rows
 pub same-entries : (t u : List ℕ) (rs qs : List Row) → readTables t ≡ inr rs → readTables u ≡ inr qs → HoldSame t u → rs ≡ qs

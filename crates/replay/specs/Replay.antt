@@ -13,16 +13,20 @@ use Rattle.rules.specs.Normal.{normalText}
 use Rattle.schedule.specs.Schedule.{orderRefusal}
 use Rattle.running.specs.Running.{runRows, answersIn}
 use Rattle.running.specs.Answers.{answersText}
-use Rattle.replay.specs.Types.{Refusal, TooManyEntries, TablesShort, AnswersShort, Event, Row, ReplayAnswer, Lengths, Refused}
+use Rattle.replay.specs.Types.{Refusal, TooManyEntries, TablesShort, AnswersShort, Answer, Event, Row, ReplayAnswer, Lengths, Refused}
 
 -- what a replay writes: the normalised end tables, and the answers by rising event
 pub record Replayed : Type 0 where
   pub tables : List ℕ
   pub answers : List ℕ
 
+-- both texts, of the end rows and the answers of the events below n
+unfoldable pub bothTexts : List Row → (ℕ → Answer) → ℕ → Replayed
+bothTexts rs given n = record { tables = normalText rs; answers = answersText given n }
+
 -- both texts, of an order of the events from the rows of a table text
 unfoldable pub textsOf : List Event → List ℕ → List Row → Replayed
-textsOf es o rs = record { tables = normalText (runRows es o rs); answers = answersText (answersIn es o rs) (length es) }
+textsOf es o rs = bothTexts (runRows es o rs) (answersIn es o rs) (length es)
 
 -- 32 where the tables buffer is too short, then 33 where the answers buffer is: the bytes needed
 unfoldable pub fitting : Replayed → ℕ → ℕ → Refusal ⊎ Replayed
@@ -82,6 +86,12 @@ tablesAfter trace tables o old old' = tablesIn (replayed trace tables o (length 
 
 unfoldable pub answersAfter : List ℕ → List ℕ → List ℕ → List ℕ → List ℕ → List ℕ
 answersAfter trace tables o old old' = answersAt (replayed trace tables o (length old) (length old')) old'
+
+-- an answer and two buffers, before and after, are as a replay leaves them
+pub record Leaves (y : Refusal ⊎ Replayed) (r : ReplayAnswer) (old new old' new' : List ℕ) : Type 0 where
+  pub answer : r ≡ answerOf y
+  pub tables : new ≡ tablesIn y old
+  pub answers : new' ≡ answersAt y old'
 
 -- buffers are long enough if neither 32 nor 33 applies
 pub record LongEnough (trace tables o : List ℕ) (room room' : ℕ) : Type 0 where

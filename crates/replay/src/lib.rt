@@ -1,4 +1,7 @@
 // Replay: what an order of a trace's events does to the tables of a text, and demand 3.
-pub mod answer;
+pub mod answer; // what the call answers
+pub mod replaying; // the call
+mod writing; // both texts, where they fit
 
 pub use answer::ReplayAnswer;
+pub use replaying::replay;

@@ -28,11 +28,12 @@ fn run_order(
 {
     let n = t.len;
     let ran = running::run(t, start, order);
-    let held = ran.rows.len;
-    if 512 < held {
+    let rows = ran.rows;
+    let answers = ran.answers;
+    if 512 < rows.len {
         return ReplayAnswer::Refused(Refusal::TooManyEntries);
     }
-    write_both(ran, n, out, replies)
+    write_both(rows, answers, n, out, replies)
 }
 
 // 21, 22; then the run.

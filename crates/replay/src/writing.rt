@@ -1,7 +1,8 @@
 // The end tables and the answers, written once both are known to fit.
 use crate::answer::ReplayAnswer;
 use refusals::Refusal;
-use running::Ran;
+use rows::Rows;
+use running::Kept;
 ghost use Prim.Native.Nat.{_≤_};
 ghost use lib.ListN.{length};
 ghost use Rattle.rows.specs.Rows.{rowsOf};
@@ -9,12 +10,16 @@ ghost use Rattle.running.specs.Running.{keptAt};
 ghost use Rattle.replay.specs.Replay.{bothTexts, fitting, Leaves};
 
 // Both texts, each from its buffer's start; nothing is written where one of them does not fit.
-pub fn write_both(ran: Ran, n: usize, out: &mut [u8], replies: &mut [u8]) -> ReplayAnswer
-    requires { ⌜ (ran .rows .len ≤ 512) × (n ≤ 256) ⌝ }
-    ensures { λ r. ⌜ Leaves (fitting (bothTexts (rowsOf (ran .rows)) (keptAt (ran .answers)) n) (length (now (out .entry))) (length (now (replies .entry)))) r (now (out .entry)) (now (out .exit)) (now (replies .entry)) (now (replies .exit)) ⌝ }
+pub fn write_both(
+    rows: Rows,
+    answers: [Kept; 256],
+    n: usize,
+    out: &mut [u8],
+    replies: &mut [u8],
+) -> ReplayAnswer
+    requires { ⌜ (rows .len ≤ 512) × (n ≤ 256) ⌝ }
+    ensures { λ r. ⌜ Leaves (fitting (bothTexts (rowsOf rows) (keptAt answers) n) (length (now (out .entry))) (length (now (replies .entry)))) r (now (out .entry)) (now (out .exit)) (now (replies .entry)) (now (replies .exit)) ⌝ }
 {
-    let rows = ran.rows;
-    let answers = ran.answers;
     let tables_need = rules::normal_length(rows);
     if out.len() < tables_need {
         return ReplayAnswer::Refused(Refusal::TablesShort(tables_need));

@@ -1,4 +1,4 @@
-pub mod Recorded
+pub mod RecordedOrder
 pub mod SameTexts
 pub mod Refusing
 pub mod Demand3

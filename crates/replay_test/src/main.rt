@@ -1,0 +1,150 @@
+// Replays the traces of its data files in the recorded order, into buffers that are a byte too short, and in the orders of another
+// file, a line for each. What must come out is in the file `stdout`: `ops` has each operation and its answers, each on a switch of
+// its own; `small` all 120 orders of five events, and orders that are none; `full` 256 events on 256 entries.
+use input::Input;
+use libc::STDOUT_FILENO;
+use replay::ReplayAnswer;
+ghost use Rattle.io.specs.Counts.{Counts};
+
+// Reads a file; what could not be read is said on standard error.
+fn read_file(path: &[u8], buf: &mut [u8]) -> Input
+    ensures { λ r. ⌜ Counts (r .len) (now (buf .exit)) ⌝ }
+{
+    let fd = os::open_read(path);
+    if fd < 0 {
+        os::fail(path);
+        return Input { ok: false, len: 0 };
+    }
+    let input = input::read_all(fd, buf);
+    if !input.ok {
+        os::fail(path);
+    }
+    libc::close(fd);
+    input
+}
+
+// An answer: both texts, or the refusal.
+fn print_answer<'a>(
+    trace: &'a [u8],
+    tables: &'a [u8],
+    a: ReplayAnswer,
+    ends: &[u8],
+    answers: &[u8],
+) {
+    match a {
+        ReplayAnswer::Lengths(n, m) => {
+            io::write_all(STDOUT_FILENO, lines::front(ends, n));
+            io::write_all(STDOUT_FILENO, lines::front(answers, m));
+        }
+        ReplayAnswer::Refused(e) => {
+            report::refused(trace, tables, e);
+        }
+    }
+}
+
+fn replay_order<'a>(trace: &'a [u8], tables: &'a [u8], order: &[u8]) {
+    let mut ends = io::large_buffer();
+    let mut answers = [0u8; 8192];
+    let a = replay::replay(trace, tables, order, &mut ends, &mut answers);
+    print_answer(trace, tables, a, &ends, &answers);
+}
+
+fn wide(x: u8) -> u64 {
+    x as u64
+}
+
+// Into both buffers, and then the first byte of the tables buffer.
+fn replay_within<'a>(
+    trace: &'a [u8],
+    tables: &'a [u8],
+    order: &[u8],
+    ends: &mut [u8],
+    answers: &mut [u8],
+) {
+    let a = replay::replay(trace, tables, order, ends, answers);
+    print_answer(trace, tables, a, ends, answers);
+    if 0 < ends.len() {
+        report::field(b"first=", wide(ends[0]));
+        report::end_line();
+    }
+}
+
+// Into buffers of these lengths.
+fn replay_short<'a>(trace: &'a [u8], tables: &'a [u8], order: &[u8], n: usize, m: usize) {
+    let mut ends = io::large_buffer();
+    let mut answers = [0u8; 8192];
+    if n <= 65536 {
+        if m <= 8192 {
+            replay_within(trace, tables, order, &mut ends[..n], &mut answers[..m]);
+        }
+    }
+}
+
+// Into a tables buffer and then into an answers buffer that is a byte too short.
+fn replay_shorter<'a>(trace: &'a [u8], tables: &'a [u8], order: &[u8]) {
+    let mut ends = io::large_buffer();
+    let mut answers = [0u8; 8192];
+    let a = replay::replay(trace, tables, order, &mut ends, &mut answers);
+    match a {
+        ReplayAnswer::Lengths(n, m) => {
+            if 0 < n {
+                replay_short(trace, tables, order, n - 1, m);
+            }
+            if 0 < m {
+                replay_short(trace, tables, order, n, m - 1);
+            }
+        }
+        ReplayAnswer::Refused(_) => {}
+    }
+}
+
+fn replay_recorded<'a>(trace: &'a [u8], tables: &'a [u8]) {
+    let order = replay::recorded_order();
+    let recorded = lines::front(&order, lines::count_lines(trace));
+    io::write_all(STDOUT_FILENO, b"order recorded\n");
+    replay_order(trace, tables, recorded);
+    replay_shorter(trace, tables, recorded);
+}
+
+fn replay_line<'a>(trace: &'a [u8], tables: &'a [u8], orders: &[u8], k: usize) {
+    report::field(b"order ", k as u64);
+    report::end_line();
+    replay_order(trace, tables, lines::line_at(orders, k));
+}
+
+fn replay_lines<'a>(trace: &'a [u8], tables: &'a [u8], orders: &[u8]) {
+    for k in 0..lines::count_lines(orders) {
+        replay_line(trace, tables, orders, k);
+    }
+}
+
+fn replay_texts<'a>(trace: &'a [u8], tables: &'a [u8], orders_name: &[u8]) {
+    let mut orders = io::buffer();
+    let read = read_file(orders_name, &mut orders);
+    if read.ok {
+        let n = read.len;
+        replay_recorded(trace, tables);
+        replay_lines(trace, tables, &orders[..n]);
+    }
+}
+
+fn replay_files(name: &[u8], trace_name: &[u8], tables_name: &[u8], orders_name: &[u8]) {
+    io::write_all(STDOUT_FILENO, b"trace ");
+    io::write_all(STDOUT_FILENO, name);
+    report::end_line();
+    let mut trace = io::large_buffer();
+    let mut tables = io::large_buffer();
+    let first = read_file(trace_name, &mut trace);
+    let second = read_file(tables_name, &mut tables);
+    if first.ok & second.ok {
+        let n = first.len;
+        let m = second.len;
+        replay_texts(&trace[..n], &tables[..m], orders_name);
+    }
+}
+
+fn main() {
+    replay_files(b"ops", b"ops_trace", b"ops_tables", b"ops_orders");
+    replay_files(b"small", b"small_trace", b"small_tables", b"small_orders");
+    replay_files(b"full", b"full_trace", b"full_tables", b"full_orders");
+}

@@ -1,0 +1,101 @@
+-- What each path through the code leaves: its answer and the two buffers. Assumes nothing.
+use mathlib.Core.Path.{_≡_, refl, sym, ap, ap₂, _∙_, fun-ext}
+use mathlib.Core.List.{List, _++_}
+use mathlib.Core.Logic.{_⊎_, inl, inr}
+use mathlib.Core.Option.{none, some}
+use Prim.Native.Nat.{ℕ, _≤_, _<_}
+use native.Mathlib.Omega.{arith}
+use borrow.Author.Tests.{lt-ltb, le-ltb}
+use lib.ListN.{length, drop, length-take}
+use Rattle.digits.specs.Print.{Put}
+use Rattle.digits.proofs.Writing.{put-whole}
+use Rattle.events.specs.Events.{eventsOf}
+use Rattle.rows.specs.Rows.{rowsOf}
+use Rattle.trace.specs.TraceText.{readTrace}
+use Rattle.rules.specs.TableText.{readTables}
+use Rattle.rules.specs.Normal.{normalText}
+use Rattle.schedule.specs.Schedule.{orderRefusal}
+use Rattle.schedule.proofs.Accepted.{accepted-iff}
+use Rattle.running.specs.Running.{keptAt, runRows, RunsTo}
+use Rattle.running.specs.Answers.{answersText}
+use Rattle.running.proofs.EndTables.{run-length}
+use Rattle.replay.specs.Types.{Refusal, TablesShort, AnswersShort, Answer, Event, Trace, Row, Rows, Ran, ReplayAnswer, Lengths, Refused}
+use Rattle.replay.specs.Replay.{Replayed, bothTexts, textsOf, fitting, ranFrom, unless, ordered, onward, replayed, answerOf, tablesIn, answersAt, replayAnswer, tablesAfter, answersAfter, Leaves}
+
+module _ {y z : Refusal ⊎ Replayed} {r : ReplayAnswer} {old new old' new' : List ℕ} where
+  leaves-as : y ≡ z → Leaves y r old new old' new' → Leaves z r old new old' new'
+  leaves-as e l = record { answer = l .answer ∙ ap answerOf e; tables = l .tables ∙ ap (λ x. tablesIn x old) e; answers = l .answers ∙ ap (λ x. answersAt x old') e }
+
+-- after a refusal both buffers are as they were
+refused-as : {y : Refusal ⊎ Replayed} {e : Refusal} {old old' : List ℕ} → inl e ≡ y → Leaves y (Refused e) old old old' old'
+refused-as p = leaves-as p (record { answer = refl; tables = refl; answers = refl })
+
+-- ---- 32, 33, or both texts written
+module _ (rs : List Row) (given : ℕ → Answer) (n : ℕ) (old old' : List ℕ) {m : ℕ} (tables : m ≡ length (normalText rs)) where
+  pub tables-short : length old < m → Leaves (fitting (bothTexts rs given n) (length old) (length old')) (Refused (TablesShort m)) old old old' old'
+  unfolding bothTexts fitting
+  tables-short h = refused-as (rw tables (sym (rw (lt-ltb (length old) (length (normalText rs)) (omega arith)))))
+
+  module _ (room : m ≤ length old) {k : ℕ} (answers : k ≡ length (answersText given n)) where
+    pub answers-short : length old' < k → Leaves (fitting (bothTexts rs given n) (length old) (length old')) (Refused (AnswersShort k)) old old old' old'
+    unfolding bothTexts fitting
+    answers-short h =
+        refused-as (rw answers (sym (rw (le-ltb (length old) (length (normalText rs)) (omega arith), lt-ltb (length old') (length (answersText given n)) (omega arith)))))
+
+    pub both-written : k ≤ length old' → {a b : ℕ} {new new' : List ℕ} → Put (normalText rs) 0 old a new → Put (answersText given n) 0 old' b new'
+        → Leaves (fitting (bothTexts rs given n) (length old) (length old')) (Lengths a b) old new old' new'
+    unfolding bothTexts fitting
+    both-written room' {a} {b} p q =
+        let e : a ≡ length (normalText rs) = omega (arith, p .after) in
+        let f : b ≡ length (answersText given n) = omega (arith, q .after) in
+        leaves-as {y = inr (bothTexts rs given n)}
+        (sym (rw (le-ltb (length old) (length (normalText rs)) (omega arith), le-ltb (length old') (length (answersText given n)) (omega arith)) refl))
+        (record {
+          answer = ap₂ Lengths e f;
+          tables = put-whole p (omega arith) ∙ ap (λ (i : ℕ). normalText rs ++ drop i old) e;
+          answers = put-whole q (omega arith) ∙ ap (λ (i : ℕ). answersText given n ++ drop i old') f;
+        })
+
+-- ---- the run: 41 never
+module _ (es : List Event) (o : List ℕ) (start : Rows) (ran : Ran) (runs : RunsTo es o start ran) (few : start .len ≤ 256) (short : length o ≤ 256) where
+  pub not-over : 512 < ran .rows .len → ⊥
+  not-over h = omega (arith, runs .size)
+
+  pub ran-through : (n a b : ℕ) {r : ReplayAnswer} {old new old' new' : List ℕ} → length es ≡ n
+      → Leaves (fitting (bothTexts (rowsOf (ran .rows)) (keptAt (ran .answers)) n) a b) r old new old' new' → Leaves (ranFrom es (rowsOf start) o a b) r old new old' new'
+  unfolding ranFrom textsOf
+  ran-through n a b size l =
+      let held : length (runRows es o (rowsOf start)) ≤ 512 = omega (arith, run-length es o (rowsOf start), length-take (start .len) (start .rows)) in
+      leaves-as ((λ i. fitting (bothTexts (runs .rows i) (fun-ext (runs .answers) i) (sym size i)) a b) ∙ sym (rw (le-ltb 512 (length (runRows es o (rowsOf start))) held) refl)) l
+
+-- ---- 21, 22, or the run
+module _ (es : List Event) (rs : List Row) (o : List ℕ) (a b : ℕ) where
+  pub order-refused : {e : Refusal} {old old' : List ℕ} → some e ≡ orderRefusal es o → Leaves (ordered es rs o a b) (Refused e) old old old' old'
+  unfolding ordered
+  order-refused p = refused-as (ap (λ x. unless x (ranFrom es rs o a b)) p)
+
+  pub order-accepted : {r : ReplayAnswer} {old new old' new' : List ℕ} → none ≡ orderRefusal es o → Leaves (ranFrom es rs o a b) r old new old' new' → Leaves (ordered es rs o a b) r old new old' new'
+  unfolding ordered
+  order-accepted p l = leaves-as (ap (λ x. unless x (ranFrom es rs o a b)) p) l
+
+pub events-few : (t : Trace) → t .len ≤ 256 → length (eventsOf t) ≤ 256
+unfolding eventsOf
+events-few t h = omega (arith, length-take (t .len) (t .events))
+
+pub order-short : (es : List Event) (o : List ℕ) → length es ≤ 256 → none ≡ orderRefusal es o → length o ≤ 256
+order-short es o h p = omega (arith, accepted-iff es o .0 (sym p) .0 .size)
+
+-- ---- a text refused, or what follows
+module _ {A : Type 0} (next : A → Refusal ⊎ Replayed) {x : Refusal ⊎ A} where
+  pub text-refused : {e : Refusal} {old old' : List ℕ} → inl e ≡ x → Leaves (onward x next) (Refused e) old old old' old'
+  text-refused p = refused-as (ap (λ y. onward y next) p)
+
+  pub text-accepted : {a : A} {r : ReplayAnswer} {old new old' new' : List ℕ} → inr a ≡ x → Leaves (next a) r old new old' new' → Leaves (onward x next) r old new old' new'
+  text-accepted p l = leaves-as (ap (λ y. onward y next) p) l
+
+-- ---- the call's contract
+pub called : (s t o old old' : List ℕ) {r : ReplayAnswer} {new new' : List ℕ}
+    → Leaves (onward (readTrace s) (λ es. onward (readTables t) (λ rs. ordered es rs o (length old) (length old')))) r old new old' new'
+    → (r ≡ replayAnswer s t o (length old) (length old')) × ((new ≡ tablesAfter s t o old old') × (new' ≡ answersAfter s t o old old'))
+unfolding replayAnswer tablesAfter answersAfter replayed
+called s t o old old' l = (l .answer, (l .tables, l .answers))

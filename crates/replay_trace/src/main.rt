@@ -1,0 +1,101 @@
+// replay_trace TRACE TABLES [ORDER]: replays the trace of a file from the tables of another, in the order whose bytes a third holds,
+// one for each event; left out, in the recorded order. Prints the end tables and then the answers, or what is refused.
+use input::Input;
+use libc::STDERR_FILENO;
+use libc::STDOUT_FILENO;
+use replay::ReplayAnswer;
+ghost use Rattle.io.specs.Counts.{Counts};
+
+// Reads a file; what could not be read is said on standard error.
+fn read_file(path: &[u8], buf: &mut [u8]) -> Input
+    ensures { λ r. ⌜ Counts (r .len) (now (buf .exit)) ⌝ }
+{
+    let fd = os::open_read(path);
+    if fd < 0 {
+        os::fail(path);
+        return Input { ok: false, len: 0 };
+    }
+    let input = input::read_all(fd, buf);
+    if !input.ok {
+        os::fail(path);
+    }
+    libc::close(fd);
+    input
+}
+
+// Reads the file that an argument names.
+fn read_arg(i: usize, buf: &mut [u8]) -> Input
+    ensures { λ r. ⌜ Counts (r .len) (now (buf .exit)) ⌝ }
+{
+    let mut name = [0u8; 4096];
+    let n = os::arg(i, &mut name);
+    if os::errno() != 0 {
+        os::fail(b"argument");
+        return Input { ok: false, len: 0 };
+    }
+    read_file(&name[..n], buf)
+}
+
+// Both texts, or the refusal. The buffers hold the longest texts that there are: 512 lines of 105 bytes, and 256 of 29.
+fn print_replay<'a>(trace: &'a [u8], tables: &'a [u8], order: &[u8]) {
+    let mut ends = io::large_buffer();
+    let mut answers = [0u8; 8192];
+    let a = replay::replay(trace, tables, order, &mut ends, &mut answers);
+    match a {
+        ReplayAnswer::Lengths(n, m) => {
+            io::write_all(STDOUT_FILENO, lines::front(&ends, n));
+            io::write_all(STDOUT_FILENO, lines::front(&answers, m));
+        }
+        ReplayAnswer::Refused(e) => {
+            report::refused(trace, tables, e);
+        }
+    }
+}
+
+// In the recorded order of a trace with so many lines.
+fn print_recorded<'a>(trace: &'a [u8], tables: &'a [u8]) {
+    let order = replay::recorded_order();
+    print_replay(
+        trace,
+        tables,
+        lines::front(&order, lines::count_lines(trace)),
+    );
+}
+
+// In the order of the third file. One that is longer than any trace is as wrong as one of 257 bytes.
+fn print_ordered<'a>(trace: &'a [u8], tables: &'a [u8]) {
+    let mut buf = [0u8; 257];
+    let order = read_arg(3, &mut buf);
+    if order.ok {
+        let n = order.len;
+        print_replay(trace, tables, &buf[..n]);
+    }
+}
+
+fn print_texts<'a>(trace: &'a [u8], tables: &'a [u8]) {
+    if os::arg_count() < 4 {
+        print_recorded(trace, tables);
+    } else {
+        print_ordered(trace, tables);
+    }
+}
+
+fn main() {
+    if os::arg_count() < 3 {
+        io::write_all(STDERR_FILENO, b"usage: replay_trace TRACE TABLES [ORDER]\n");
+        return;
+    }
+    let mut trace = io::large_buffer();
+    let mut tables = io::large_buffer();
+    let first = read_arg(1, &mut trace);
+    if !first.ok {
+        return;
+    }
+    let second = read_arg(2, &mut tables);
+    if !second.ok {
+        return;
+    }
+    let n = first.len;
+    let m = second.len;
+    print_texts(&trace[..n], &tables[..m]);
+}

@@ -2,7 +2,7 @@
 use Prim.Native.Nat.{ℕ}
 use mathlib.Core.List.{List, []}
 use mathlib.Core.Logic.{_⊎_, inl, inr}
-use Rattle.exports.specs.Types.{Refusal, ListAnswer, Counted, ListRefused, Listed, Normalised}
+use Rattle.exports.specs.Types.{Refusal, ListAnswer, Counted, ListRefused, Listed, Normalised, ReplayAnswer, Lengths, ReplayRefused, Replayed}
 use Rattle.exports.specs.Refused.{nothingRefused, refusedAs}
 
 -- the list call on a trace: the counts, or the refusal and counts of 0
@@ -15,3 +15,8 @@ listAs trace (ListRefused r) = record { refused = refusedAs trace [] r; pairs = 
 unfoldable pub normalAs : List ℕ → Refusal ⊎ ℕ → Normalised
 normalAs tables (inr n) = record { refused = nothingRefused; length = n }
 normalAs tables (inl r) = record { refused = refusedAs [] tables r; length = 0 }
+
+-- replay of a trace on tables: the lengths of the end tables and of the answers, or the refusal and lengths of 0
+unfoldable pub replayAs : List ℕ → List ℕ → ReplayAnswer → Replayed
+replayAs trace tables (Lengths m n) = record { refused = nothingRefused; tables = m; answers = n }
+replayAs trace tables (ReplayRefused r) = record { refused = refusedAs trace tables r; tables = 0; answers = 0 }

@@ -17,13 +17,13 @@ pub fn damaged(random: &mut Random, text: &[u8]) -> Vec<u8> {
 }
 
 fn one_fault(random: &mut Random, text: &[u8]) -> Vec<u8> {
-    match random.below(16) {
+    match random.below(20) {
         0 => whole_text(random, text),
         1 | 2 => any_byte(random, text),
         3 | 4 => lines_moved(random, text),
         5 => last_byte(random, text),
         6..=8 => prefix_bit(random, text),
-        9..=12 => token(random, text),
+        9..=15 => token(random, text),
         _ => value(random, text),
     }
 }
@@ -128,10 +128,10 @@ fn token(random: &mut Random, text: &[u8]) -> Vec<u8> {
     let value_at = |at: usize| at + if text[at..].starts_with(b" in=") { 4 } else { 5 };
     let from = value_at(from);
     let end = text[from..].iter().position(|&b| b == b' ' || b == b'\n').map_or(text.len(), |n| from + n);
-    let tokens = match random.below(6) {
-        0 => b"0".to_vec(),
-        1 => b"1,2,3,4,5".to_vec(),
-        2 => b"7,7".to_vec(),
+    let tokens = match random.below(12) {
+        0 => b"1,2,3,4,5".to_vec(),
+        1 => b"7,7".to_vec(),
+        2..=6 => b"7".to_vec(),
         _ => text[from..end].to_vec(),
     };
     let mut damaged = text.to_vec();

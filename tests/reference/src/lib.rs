@@ -14,6 +14,7 @@
 //! | [`tables`] | Tables: table texts and their normal form |
 //! | [`replay`](mod@replay) | Replay, and what an order of events does |
 //! | [`refusal`] | Refusal table |
+//! | [`output`] | Program and worked lines |
 //!
 //! The three calls write into buffers that the caller lends, as the proved ones do:
 //! [`list`], [`normalise`] and [`replay()`].
@@ -21,6 +22,7 @@
 pub mod causality;
 pub mod commute;
 pub mod flow;
+pub mod output;
 pub mod races;
 pub mod refusal;
 pub mod replay;

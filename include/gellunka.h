@@ -10,7 +10,7 @@
  *   - a pointer points to at least as many bytes as the length after it says, and is not NULL even
  *     where that length is 0;
  *   - no output buffer overlaps another buffer of the call;
- *   - a call takes up to 1 MB of stack.
+ *   - there is 1 MB of stack left for a call.
  *
  * The calls keep nothing between them and touch no memory but their stack and what they are passed, so
  * threads may make them at the same time.
@@ -29,7 +29,7 @@ extern "C" {
 #define GELLUNKA_MAX_BYTES 65535 /* of a trace or a table text */
 #define GELLUNKA_MAX_LINES 256   /* of a trace or a table text */
 
-/* Buffers of these lengths are never too short. */
+/* Buffers of these lengths are never too short. (Counted from the limits and tested, not proved.) */
 #define GELLUNKA_LIST_ROOM 65280    /* of gellunka_list_races */
 #define GELLUNKA_NORMAL_ROOM 65535  /* of gellunka_normalise */
 #define GELLUNKA_TABLES_ROOM 53760  /* of gellunka_replay, the end tables */

@@ -6,8 +6,8 @@
 //!
 //! The work is done by a static library whose source is proved against definitions of the specification,
 //! document 01 (`crates/exports` of the repository). What is said below of results, refusals and buffers is
-//! proved for every input. This crate declares its functions and gives their answers Rust's types; that part
-//! is tested, not proved.
+//! proved for every input. This crate declares its functions and gives their answers Rust's types; that part,
+//! and the lengths [`LIST_ROOM`] to [`ANSWERS_ROOM`], are tested and not proved.
 //!
 //! A call allocates nothing and takes up to 1 MB of stack.
 //!

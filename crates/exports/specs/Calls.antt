@@ -1,0 +1,22 @@
+-- What the calls for other programs answer.
+use Prim.Native.Nat.{ℕ}
+use mathlib.Core.List.{List, []}
+use mathlib.Core.Logic.{_⊎_, inl, inr}
+use Rattle.exports.specs.Types.{Refusal, ListAnswer, Counted, ListRefused, Listed, Normalised, ReplayAnswer, Lengths, ReplayRefused, Replayed}
+use Rattle.exports.specs.Refused.{nothingRefused, refusedAs}
+
+-- the list call on a trace: the counts, or the refusal and counts of 0
+unfoldable pub listAs : List ℕ → ListAnswer → Listed
+listAs trace (Counted c) =
+    record { refused = nothingRefused; pairs = c .pairs; ordered = c .ordered; commuting = c .commuting; listed = c .listed }
+listAs trace (ListRefused r) = record { refused = refusedAs trace [] r; pairs = 0; ordered = 0; commuting = 0; listed = 0 }
+
+-- the normaliser on tables: the length of the normal text, or the refusal and a length of 0
+unfoldable pub normalAs : List ℕ → Refusal ⊎ ℕ → Normalised
+normalAs tables (inr n) = record { refused = nothingRefused; length = n }
+normalAs tables (inl r) = record { refused = refusedAs [] tables r; length = 0 }
+
+-- replay of a trace on tables: the lengths of the end tables and of the answers, or the refusal and lengths of 0
+unfoldable pub replayAs : List ℕ → List ℕ → ReplayAnswer → Replayed
+replayAs trace tables (Lengths m n) = record { refused = nothingRefused; tables = m; answers = n }
+replayAs trace tables (ReplayRefused r) = record { refused = refusedAs trace tables r; tables = 0; answers = 0 }

@@ -1,0 +1,130 @@
+/*
+ * Gellunka: a proved checker for OpenFlow rehearsals.
+ *
+ * Link with target/staticlib/libexports.a, which `rt staticlib exports` builds.
+ *
+ * What is promised of each call below is proved of its source (crates/exports); "document 01" is the
+ * specification that README.md speaks of. It holds for every input, so nothing is asked of the bytes that
+ * are passed. What C must see to, as with any function that takes buffers:
+ *
+ *   - a pointer points to at least as many bytes as the length after it says, and is not NULL even
+ *     where that length is 0;
+ *   - no output buffer overlaps another buffer of the call;
+ *   - there is 1 MB of stack left for a call.
+ *
+ * The calls keep nothing between them and touch no memory but their stack and what they are passed, so
+ * threads may make them at the same time.
+ */
+#ifndef GELLUNKA_H
+#define GELLUNKA_H
+
+#include <stddef.h>
+#include <stdint.h>
+
+#ifdef __cplusplus
+extern "C" {
+#endif
+
+/* Limits of the texts. A longer text is refused. */
+#define GELLUNKA_MAX_BYTES 65535 /* of a trace or a table text */
+#define GELLUNKA_MAX_LINES 256   /* of a trace or a table text */
+
+/* Buffers of these lengths are never too short. (Counted from the limits and tested, not proved.) */
+#define GELLUNKA_LIST_ROOM 65280    /* of gellunka_list_races */
+#define GELLUNKA_NORMAL_ROOM 65535  /* of gellunka_normalise */
+#define GELLUNKA_TABLES_ROOM 53760  /* of gellunka_replay, the end tables */
+#define GELLUNKA_ANSWERS_ROOM 7424  /* of gellunka_replay, the answers */
+
+/*
+ * What is refused, by document 01's table of refusals.
+ *
+ *    number    cause                                               place
+ *     1  2  3  trace: over 65,535 bytes / last byte not LF /
+ *              over 256 lines                                      0
+ *     4        trace: line malformed, value outside its range      line
+ *     5        trace: `ev` isn't the line number                   line
+ *     6        trace: address bit past the prefix                  line
+ *     7        trace: token in `out` of two lines                  the later line
+ *     8        trace: `in` token put out on this or a later line   line of the `in`
+ *    11 12 13  tables: as 1, 2, 3                                  0
+ *    14 15     tables: as 4, 6                                     line
+ *    16        tables: switch and key twice                        the later line
+ *    21        order: length wrong, or an event missing            0
+ *    22        order: event put before one that happens before it  lowest such position
+ *    31 32 33  buffer too short: list / tables / answers           bytes needed
+ *
+ * (41, over 512 entries held, cannot happen.) Of several causes the first in document 01's order of
+ * checks is told. Lines and positions count from 0.
+ */
+struct gellunka_refused {
+    size_t number; /* document 01's number; 0: nothing is refused, and all fields here are 0 */
+    size_t place;  /* a line, a position in the order, the bytes needed, or 0 */
+    /* The refused line, without its LF: `length` bytes from byte `start` on, of the trace for 4 to 8 and
+     * of the table text for 14 to 16. Both are 0 for every other number. */
+    size_t start;
+    size_t length;
+};
+
+/* The answer of gellunka_list_races. After a refusal the counts are 0. */
+struct gellunka_listed {
+    struct gellunka_refused refused;
+    size_t pairs;     /* all two table events of one switch */
+    size_t ordered;   /* those of which one happens before the other */
+    size_t commuting; /* those that are not ordered, and commute */
+    size_t listed;    /* the rest, which are in the list */
+};
+
+/* The answer of gellunka_normalise. After a refusal the length is 0. */
+struct gellunka_normalised {
+    struct gellunka_refused refused;
+    size_t length; /* of the normal text */
+};
+
+/* The answer of gellunka_replay. After a refusal both lengths are 0. */
+struct gellunka_replayed {
+    struct gellunka_refused refused;
+    size_t tables;  /* length of the end tables */
+    size_t answers; /* length of the answers */
+};
+
+/*
+ * The list of racing pairs of a trace.
+ *
+ * Refuses by 1 to 8, then by 31, and leaves `out` as it was then. Otherwise the first 2 * listed bytes of
+ * `out` are the listed pairs, two bytes each, lower event and then higher event, in rising order; the bytes
+ * after them are as they were. A pair is listed exactly if both events use the table of one switch, neither
+ * happens before the other, and there is a table on which the two orders leave different tables or give one
+ * of them a different answer.
+ */
+struct gellunka_listed gellunka_list_races(const uint8_t *trace, size_t trace_length, uint8_t *out,
+                                           size_t out_length);
+
+/*
+ * The normal form of a table text: switches rising, then table order.
+ *
+ * Refuses by 11 to 16, then by 32, and leaves `out` as it was then. Otherwise the first `length` bytes of
+ * `out` are the normal text; the bytes after them are as they were. Two accepted texts have the same normal
+ * text exactly if they hold the same entries on the same switches.
+ */
+struct gellunka_normalised gellunka_normalise(const uint8_t *tables, size_t tables_length, uint8_t *out,
+                                              size_t out_length);
+
+/*
+ * What an order of a trace's events does to the tables of a text. The order has one byte for each event, its
+ * number.
+ *
+ * Refuses by 1 to 8, 11 to 16, 21, 22, 32 and 33, in this order, and leaves both output buffers as they were
+ * then. Otherwise the first `tables` bytes of `tables_out` are the end tables in normal form, and the first
+ * `answers` bytes of `answers_out` the answer lines by rising event; the bytes after them are as they were.
+ * Orders that keep happens-before and have every listed pair in recorded order all write the same bytes.
+ */
+struct gellunka_replayed gellunka_replay(const uint8_t *trace, size_t trace_length, const uint8_t *tables,
+                                         size_t tables_length, const uint8_t *order, size_t order_length,
+                                         uint8_t *tables_out, size_t tables_out_length, uint8_t *answers_out,
+                                         size_t answers_out_length);
+
+#ifdef __cplusplus
+}
+#endif
+
+#endif

@@ -1,0 +1,131 @@
+//! A proved checker for OpenFlow rehearsals.
+//!
+//! Switches and controller record their events as a trace. [`list_races`] lists the pairs of events on one
+//! switch whose order was open and matters, [`normalise`] brings the text of flow tables into a normal form, and
+//! [`replay`] tells what an order of the events does to given tables.
+//!
+//! The work is done by a static library whose source is proved against definitions of the specification,
+//! document 01 (`crates/exports` of the repository). What is said below of results, refusals and buffers is
+//! proved for every input. This crate declares its functions and gives their answers Rust's types; that part,
+//! and the lengths [`LIST_ROOM`] to [`ANSWERS_ROOM`], are tested and not proved.
+//!
+//! A call allocates nothing and takes up to 1 MB of stack.
+//!
+//! # Example
+//!
+//! ```
+//! let trace = b"\
+//! ev=0 do=pkt in=- out=1 sw=1 port=1 src=0a000001 dst=0a000002 proto=6 sport=4000 dport=80
+//! ev=1 do=oth in=1 out=2,3,4
+//! ev=2 do=add in=2 out=- sw=1 prio=10 port=* src=00000000/0 dst=0a000002/32 proto=* sport=* dport=* act=p2
+//! ev=3 do=add in=3 out=- sw=2 prio=10 port=* src=00000000/0 dst=0a000002/32 proto=* sport=* dport=* act=p3
+//! ev=4 do=pkt in=4 out=- sw=2 port=1 src=0a000001 dst=0a000002 proto=6 sport=4000 dport=80
+//! ";
+//! let mut list = [0; gellunka::LIST_ROOM];
+//! let counts = gellunka::list_races(trace, &mut list)?;
+//! assert_eq!((counts.pairs, counts.ordered, counts.commuting, counts.listed), (2, 1, 0, 1));
+//! // The packet may reach switch 2 before its rule does.
+//! assert_eq!(counts.pairs_in(&list).collect::<Vec<_>>(), [(3, 4)]);
+//!
+//! let refusal = gellunka::list_races(b"ev=7 do=oth in=- out=-\n", &mut list).unwrap_err();
+//! assert_eq!(refusal.reason, gellunka::Reason::EventMisnumbered);
+//! assert_eq!((refusal.reason.number(), refusal.place), (5, 0));
+//! assert_eq!(refusal.line, b"ev=7 do=oth in=- out=-");
+//! # Ok::<(), gellunka::Refusal>(())
+//! ```
+
+mod ffi;
+mod refusal;
+
+pub use refusal::{Reason, Refusal};
+
+/// A buffer of this length is never too short for [`list_races`].
+pub const LIST_ROOM: usize = 65_280;
+/// A buffer of this length is never too short for [`normalise`]. Nor is one as long as the table text.
+pub const NORMAL_ROOM: usize = 65_535;
+/// A buffer of this length is never too short for the end tables of [`replay`].
+pub const TABLES_ROOM: usize = 53_760;
+/// A buffer of this length is never too short for the answers of [`replay`].
+pub const ANSWERS_ROOM: usize = 7_424;
+
+/// How many pairs of table events of one switch a trace has, by kind.
+#[derive(Clone, Copy, Debug, Default, PartialEq, Eq, Hash)]
+pub struct Counts {
+    /// All two table events of one switch.
+    pub pairs: usize,
+    /// Those of which one happens before the other.
+    pub ordered: usize,
+    /// Those that are not ordered, and commute.
+    pub commuting: usize,
+    /// The rest, which are in the list.
+    pub listed: usize,
+}
+
+impl Counts {
+    /// The listed pairs, lower event and higher event, from the buffer that [`list_races`] wrote them to.
+    pub fn pairs_in(self, list: &[u8]) -> impl Iterator<Item = (u8, u8)> + '_ {
+        list.chunks_exact(2).take(self.listed).map(|pair| (pair[0], pair[1]))
+    }
+}
+
+/// How many bytes [`replay`] wrote to each of its buffers.
+#[derive(Clone, Copy, Debug, PartialEq, Eq, Hash)]
+pub struct Lengths {
+    /// Of the end tables.
+    pub tables: usize,
+    /// Of the answers.
+    pub answers: usize,
+}
+
+/// Lists the racing pairs of a trace.
+///
+/// The first `2 * listed` bytes of `out` are then the listed pairs, two bytes each, lower event and then higher
+/// event, in rising order; the bytes after them are as they were. [`Counts::pairs_in`] reads them.
+///
+/// A pair is listed exactly if both events use the table of one switch, neither happens before the other, and
+/// there is a table on which the two orders leave different tables or give one of them a different answer.
+///
+/// # Errors
+///
+/// Refuses by 1 to 8, then by 31, and leaves `out` as it was then.
+pub fn list_races<'a>(trace: &'a [u8], out: &mut [u8]) -> Result<Counts, Refusal<'a>> {
+    let answer = ffi::list_races(trace, out);
+    answer.refused.check(trace, b"")?;
+    let ffi::Listed { pairs, ordered, commuting, listed, .. } = answer;
+    Ok(Counts { pairs, ordered, commuting, listed })
+}
+
+/// Brings a table text into its normal form, switches rising and then table order, and gives its length.
+///
+/// That many bytes of `out` are then the normal text; the bytes after them are as they were. Two accepted texts
+/// have the same normal text exactly if they hold the same entries on the same switches.
+///
+/// # Errors
+///
+/// Refuses by 11 to 16, then by 32, and leaves `out` as it was then.
+pub fn normalise<'a>(tables: &'a [u8], out: &mut [u8]) -> Result<usize, Refusal<'a>> {
+    let answer = ffi::normalise(tables, out);
+    answer.refused.check(b"", tables)?;
+    Ok(answer.length)
+}
+
+/// Runs the events of a trace in an order, one byte for each event, from the tables of a text.
+///
+/// `tables_out` then starts with the end tables in normal form and `answers_out` with the answer lines by rising
+/// event; the bytes after them are as they were. Orders that keep happens-before and have every listed pair in
+/// recorded order all write the same bytes.
+///
+/// # Errors
+///
+/// Refuses by 1 to 8, 11 to 16, 21, 22, 32 and 33, in this order, and leaves both buffers as they were then.
+pub fn replay<'a>(
+    trace: &'a [u8],
+    tables: &'a [u8],
+    order: &[u8],
+    tables_out: &mut [u8],
+    answers_out: &mut [u8],
+) -> Result<Lengths, Refusal<'a>> {
+    let answer = ffi::replay(trace, tables, order, tables_out, answers_out);
+    answer.refused.check(trace, tables)?;
+    Ok(Lengths { tables: answer.tables, answers: answer.answers })
+}

@@ -1,0 +1,79 @@
+/*
+ * The calls from C, on the worked lines of document 01:
+ *
+ *     cc -Wall -Wextra -Iinclude tests/c/calls.c target/staticlib/libexports.a -o target/calls && target/calls
+ */
+#include "gellunka.h"
+
+#include <stdio.h>
+#include <string.h>
+
+static const char TRACE[] =
+    "ev=0 do=pkt in=- out=1 sw=1 port=1 src=0a000001 dst=0a000002 proto=6 sport=4000 dport=80\n"
+    "ev=1 do=oth in=1 out=2,3,4\n"
+    "ev=2 do=add in=2 out=- sw=1 prio=10 port=* src=00000000/0 dst=0a000002/32 proto=* sport=* dport=* act=p2\n"
+    "ev=3 do=add in=3 out=- sw=2 prio=10 port=* src=00000000/0 dst=0a000002/32 proto=* sport=* dport=* act=p3\n"
+    "ev=4 do=pkt in=4 out=- sw=2 port=1 src=0a000001 dst=0a000002 proto=6 sport=4000 dport=80\n";
+
+static const char TABLES[] =
+    "sw=2 prio=10 port=* src=00000000/0 dst=0a000002/32 proto=* sport=* dport=* act=p3\n"
+    "sw=1 prio=10 port=* src=00000000/0 dst=0a000002/32 proto=* sport=* dport=* act=p2\n";
+
+static const char ANSWERS[] = "ev=0 hit=-\nev=4 hit=10,1,p3\n";
+
+static const char BAD[] = "sw=1\nsw=2\n";
+
+static int failures = 0;
+
+static void expect(int holds, const char *what) {
+    if (!holds) {
+        printf("failed: %s\n", what);
+        failures++;
+    }
+}
+
+static const uint8_t *bytes(const char *text) { return (const uint8_t *)text; }
+
+static void list(void) {
+    uint8_t out[4] = {9, 9, 9, 9};
+    struct gellunka_listed a = gellunka_list_races(bytes(TRACE), strlen(TRACE), out, 4);
+    expect(a.refused.number == 0, "the trace is accepted");
+    expect(a.pairs == 2 && a.ordered == 1 && a.commuting == 0 && a.listed == 1, "counts");
+    expect(out[0] == 3 && out[1] == 4 && out[2] == 9 && out[3] == 9, "the list's bytes");
+    a = gellunka_list_races(bytes(TRACE), strlen(TRACE), out, 1);
+    expect(a.refused.number == 31 && a.refused.place == 2 && a.listed == 0, "a short buffer");
+    a = gellunka_list_races(bytes(TRACE), strlen(TRACE) - 1, out, 4);
+    expect(a.refused.number == 2 && a.refused.place == 0, "a trace whose last byte is not LF");
+}
+
+static void normalise(void) {
+    uint8_t out[256];
+    struct gellunka_normalised a = gellunka_normalise(bytes(TABLES), strlen(TABLES), out, sizeof out);
+    expect(a.refused.number == 0 && a.length == strlen(TABLES), "the tables are accepted");
+    expect(memcmp(out, "sw=1 ", 5) == 0, "switches rise");
+    a = gellunka_normalise(bytes(BAD), strlen(BAD), out, sizeof out);
+    expect(a.refused.number == 14 && a.refused.place == 0 && a.length == 0, "a malformed line");
+    expect(a.refused.start == 0 && a.refused.length == 4, "where the malformed line stands");
+}
+
+static void replay(void) {
+    const uint8_t order[] = {0, 1, 2, 3, 4}, early[] = {0, 2, 1, 3, 4};
+    static uint8_t tables[GELLUNKA_TABLES_ROOM], answers[GELLUNKA_ANSWERS_ROOM];
+    struct gellunka_replayed a =
+        gellunka_replay(bytes(TRACE), strlen(TRACE), bytes(""), 0, order, 5, tables, sizeof tables, answers, sizeof answers);
+    expect(a.refused.number == 0 && a.tables == strlen(TABLES), "the order is accepted");
+    expect(a.answers == strlen(ANSWERS) && memcmp(answers, ANSWERS, a.answers) == 0, "answers");
+    a = gellunka_replay(bytes(TRACE), strlen(TRACE), bytes(""), 0, early, 5, tables, sizeof tables, answers, sizeof answers);
+    expect(a.refused.number == 22 && a.refused.place == 1, "an event too early");
+    a = gellunka_replay(bytes(TRACE), strlen(TRACE), bytes(BAD), strlen(BAD), order, 5, tables, sizeof tables, answers,
+                        sizeof answers);
+    expect(a.refused.number == 14 && a.refused.start == 0 && a.refused.length == 4, "malformed tables");
+}
+
+int main(void) {
+    list();
+    normalise();
+    replay();
+    printf(failures == 0 ? "C calls: ok\n" : "C calls: failed\n");
+    return failures != 0;
+}

@@ -1,0 +1,64 @@
+//! Events and entries as lines of a text.
+
+use reference::flow::{Entry, Packet};
+use reference::table::TableOperation;
+use reference::tables::{EntryItems, MatchItems};
+use reference::trace::{Event, Operation};
+
+/// The text of a trace of some events.
+pub fn trace_text(events: &[Event]) -> Vec<u8> {
+    let line = |(number, event)| event_line(number, event) + "\n";
+    events.iter().enumerate().map(line).collect::<String>().into_bytes()
+}
+
+/// The text of tables with some entries, in the order given.
+pub fn tables_text(entries: &[(u8, Entry)]) -> Vec<u8> {
+    let line = |&(switch, entry)| format!("sw={switch} {}\n", EntryItems(entry));
+    entries.iter().map(line).collect::<String>().into_bytes()
+}
+
+/// The line of an event, without its LF.
+pub fn event_line(number: usize, event: &Event) -> String {
+    let (taken, put) = (tokens(&event.taken), tokens(&event.put));
+    let (word, items) = operation_items(&event.operation);
+    format!("ev={number} do={word} in={taken} out={put}{items}")
+}
+
+fn tokens(tokens: &[u16]) -> String {
+    if tokens.is_empty() {
+        return "-".to_owned();
+    }
+    tokens.iter().map(u16::to_string).collect::<Vec<_>>().join(",")
+}
+
+/// The word of an operation, and the items after `out`.
+fn operation_items(operation: &Operation) -> (&'static str, String) {
+    match operation {
+        Operation::Other => ("oth", String::new()),
+        Operation::Barrier(switch) => ("bar", format!(" sw={switch}")),
+        Operation::Message(switch) => ("msg", format!(" sw={switch}")),
+        Operation::Table(switch, operation) => {
+            let (word, items) = table_items(operation);
+            (word, format!(" sw={switch} {items}"))
+        }
+    }
+}
+
+fn table_items(operation: &TableOperation) -> (&'static str, String) {
+    match operation {
+        TableOperation::Packet(packet) => ("pkt", packet_items(packet)),
+        TableOperation::Add(entry) => ("add", EntryItems(*entry).to_string()),
+        TableOperation::CheckedAdd(entry) => ("addc", EntryItems(*entry).to_string()),
+        TableOperation::StrictModify(entry) => ("mods", EntryItems(*entry).to_string()),
+        TableOperation::Modify(entry) => ("modn", EntryItems(*entry).to_string()),
+        TableOperation::StrictDelete(key) => {
+            ("dels", format!("prio={} {}", key.priority.0, MatchItems(key.matching)))
+        }
+        TableOperation::Delete(matching) => ("deln", MatchItems(*matching).to_string()),
+    }
+}
+
+fn packet_items(packet: &Packet) -> String {
+    let Packet { port, src, dst, proto, sport, dport } = packet;
+    format!("port={port} src={src:08x} dst={dst:08x} proto={proto} sport={sport} dport={dport}")
+}

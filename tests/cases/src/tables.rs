@@ -1,0 +1,43 @@
+//! Valid table texts, random ones and worst cases.
+
+use crate::print::tables_text;
+use crate::{Random, World};
+use reference::flow::{Action, Entry, Key, Match, Prefix};
+
+/// The lines of a random valid table text: each switch and key at most once, in any order.
+pub fn any_tables(random: &mut Random, world: World, length: usize) -> Vec<(u8, Entry)> {
+    let mut lines: Vec<(u8, Entry)> = Vec::new();
+    // A narrow world has fewer keys than are asked for, so the tries are bounded.
+    for _ in 0..2 * length {
+        let (switch, entry) = (world.switch(random), world.entry(random));
+        let is_new = lines.iter().all(|(s, e)| *s != switch || e.key != entry.key);
+        if is_new && lines.len() < length {
+            lines.push((switch, entry));
+        }
+    }
+    lines
+}
+
+/// The n-th of the entries whose lines are longest, in table order.
+pub fn long_entry(n: u16) -> Entry {
+    let prefix = Prefix { value: 0xffff_fff0, len: 30 };
+    let matching = Match {
+        port: Some(60_000 + n),
+        src: prefix,
+        dst: prefix,
+        proto: Some(255),
+        sport: Some(65_535),
+        dport: Some(65_535),
+    };
+    Entry { key: Key::new(65_535, matching), action: Action::Port(65_535) }
+}
+
+/// 256 of the longest lines, in reversed table order.
+pub fn reversed() -> Vec<u8> {
+    tables_text(&(0..256).rev().map(|n| (14, long_entry(n))).collect::<Vec<_>>())
+}
+
+/// 256 of the longest lines, in table order.
+pub fn sorted() -> Vec<u8> {
+    tables_text(&(0..256).map(|n| (14, long_entry(n))).collect::<Vec<_>>())
+}

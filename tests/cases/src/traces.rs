@@ -1,0 +1,115 @@
+//! Valid traces, random ones and worst cases.
+
+use crate::print::trace_text;
+use crate::{Random, World};
+use reference::flow::{Action, Entry, Key, Match};
+use reference::table::TableOperation;
+use reference::trace::{Event, Operation};
+
+/// How many events a random trace has: mostly few, sometimes as many as there may be.
+pub fn any_length(random: &mut Random) -> usize {
+    match random.below(12) {
+        0 => 256,
+        1 => random.below(257),
+        2..=4 => random.below(40),
+        _ => random.below(9),
+    }
+}
+
+/// The events of a random valid trace. Tokens are passed on to later lines; some are taken more than
+/// once, some never, and some are taken that were never put out.
+pub fn any_trace(random: &mut Random, world: World, length: usize) -> Vec<Event> {
+    let mut fresh = token_numbers(random);
+    let never_put = fresh.split_off(fresh.len() - 8);
+    let mut known: Vec<u16> = Vec::new();
+    let (token_share, barrier_share) = (random.pick(&[2, 4, 16]), random.pick(&[6, 20]));
+    let mut events = Vec::with_capacity(length);
+    for _ in 0..length {
+        let operation = any_operation(random, world, barrier_share);
+        let mut taken = Vec::new();
+        while taken.len() < 4 && random.one_in(token_share) {
+            let pool = if known.is_empty() || random.one_in(8) { &never_put } else { &known };
+            taken.push(random.pick(pool));
+        }
+        let mut put = Vec::new();
+        while put.len() < 4 && random.one_in(token_share) {
+            put.extend(fresh.pop());
+        }
+        known.extend(&put);
+        for tokens in [&mut taken, &mut put] {
+            tokens.sort_unstable();
+            tokens.dedup();
+        }
+        events.push(Event { operation, taken, put });
+    }
+    events
+}
+
+/// All token numbers that a trace may need, in a random order, with the least and the largest.
+fn token_numbers(random: &mut Random) -> Vec<u16> {
+    let mut numbers: Vec<u16> = (0..600).chain(64_936..=65_535).collect();
+    random.shuffle(&mut numbers);
+    numbers
+}
+
+fn any_operation(random: &mut Random, world: World, barrier_share: usize) -> Operation {
+    let switch = world.switch(random);
+    match random.below(10) {
+        _ if random.one_in(barrier_share) => Operation::Barrier(switch),
+        0 => Operation::Message(switch),
+        1 => Operation::Other,
+        _ => Operation::Table(switch, world.operation(random)),
+    }
+}
+
+/// Events without tokens.
+fn apart(operations: impl IntoIterator<Item = Operation>) -> Vec<Event> {
+    let event = |operation| Event { operation, taken: Vec::new(), put: Vec::new() };
+    operations.into_iter().map(event).collect()
+}
+
+fn entry(matching: Match, port: u16) -> Entry {
+    Entry { key: Key::new(5, matching), action: Action::Port(port) }
+}
+
+/// 256 adds of one key with different actions, all on one switch and none ordered: every pair races.
+pub fn all_racing() -> Vec<u8> {
+    let add = |n| Operation::Table(1, TableOperation::Add(entry(Match::ANY, n)));
+    trace_text(&apart((0..256).map(add)))
+}
+
+/// 256 non-strict modifies of one match with different actions: every pair races.
+pub fn all_racing_modifies() -> Vec<u8> {
+    let modify = |n| Operation::Table(1, TableOperation::Modify(entry(Match::ANY, n)));
+    trace_text(&apart((0..256).map(modify)))
+}
+
+/// 256 adds of one switch, each of which takes in the token that the one before it put out.
+pub fn token_chain() -> Vec<u8> {
+    let mut events = apart((0..256).map(|n| Operation::Table(1, TableOperation::Add(entry(Match::ANY, n)))));
+    for (token, event) in (0..).zip(&mut events) {
+        event.put = vec![token];
+        event.taken = token.checked_sub(1).into_iter().collect();
+    }
+    trace_text(&events)
+}
+
+/// 128 adds of one switch with a barrier after each.
+pub fn barriers() -> Vec<u8> {
+    let two = |n| {
+        let add = Operation::Table(1, TableOperation::Add(entry(Match::ANY, n)));
+        [add, Operation::Barrier(1)]
+    };
+    trace_text(&apart((0..128).flat_map(two)))
+}
+
+/// 256 barriers of one switch: each directly precedes all later ones.
+pub fn only_barriers() -> Vec<u8> {
+    trace_text(&apart((0..256).map(|_| Operation::Barrier(1))))
+}
+
+/// 256 adds of different keys on switch 1, each line as long as can be.
+pub fn long_adds() -> Vec<u8> {
+    let add = |n| Operation::Table(15, TableOperation::Add(crate::tables::long_entry(n)));
+    trace_text(&apart((0..256).map(add)))
+}

@@ -1,0 +1,200 @@
+//! The generators are tried on the reference: what is made valid is accepted, the damaged texts reach
+//! every refusal, and allowed orders agree with the recorded one.
+
+use cases::damage::damaged;
+use cases::orders::{all_orders, any_allowed, any_damaged, is_allowed};
+use cases::print::{tables_text, trace_text};
+use cases::tables::any_tables;
+use cases::traces::{self, any_length, any_trace};
+use cases::{Random, World};
+use reference::causality::directly_precedes;
+use reference::races::racing_pairs;
+use reference::replay::recorded_order;
+use reference::trace::Event;
+use reference::{happens_before, list, normalise, read_tables, read_trace, replay, Counts, Refusal};
+use std::collections::BTreeMap;
+
+#[test]
+fn valid_texts_are_accepted() {
+    let mut random = Random::from_seed(1);
+    for _ in 0..2000 {
+        let world = World::any(&mut random);
+        let length = any_length(&mut random);
+        let events = any_trace(&mut random, world, length);
+        assert_eq!(read_trace(&trace_text(&events)), Ok(events));
+        let entries = any_tables(&mut random, world, length);
+        let text = tables_text(&entries);
+        let tables = read_tables(&text).expect("a valid text");
+        for (switch, entry) in &entries {
+            assert!(tables[usize::from(*switch)].entries().any(|e| e == *entry));
+        }
+        assert_eq!(tables.iter().map(|table| table.len()).sum::<usize>(), entries.len());
+    }
+}
+
+#[test]
+fn normal_forms() {
+    let mut random = Random::from_seed(2);
+    for _ in 0..500 {
+        let world = World::any(&mut random);
+        let length = any_length(&mut random);
+        let mut entries = any_tables(&mut random, world, length);
+        let text = tables_text(&entries);
+        random.shuffle(&mut entries);
+        let typed_anew = tables_text(&entries);
+        let normal = normal_of(&text);
+        assert_eq!(normal, normal_of(&typed_anew));
+        assert_eq!(normal, normal_of(&normal));
+        assert_eq!(normal.len(), text.len());
+    }
+}
+
+fn normal_of(text: &[u8]) -> Vec<u8> {
+    let mut out = vec![0; text.len()];
+    let length = normalise(text, &mut out).expect("a valid text");
+    out.truncate(length);
+    out
+}
+
+/// Happens-before as document 01 says it: every chain of one or more steps, found by a search.
+fn reached(events: &[Event], from: usize) -> Vec<bool> {
+    let mut seen = vec![false; events.len()];
+    let mut to_do = vec![from];
+    while let Some(event) = to_do.pop() {
+        for later in event + 1..events.len() {
+            if !seen[later] && directly_precedes(&events[event], &events[later]) {
+                seen[later] = true;
+                to_do.push(later);
+            }
+        }
+    }
+    seen
+}
+
+#[test]
+fn happens_before_is_every_chain() {
+    let mut random = Random::from_seed(3);
+    for _ in 0..300 {
+        let world = World::any(&mut random);
+        let length = any_length(&mut random);
+        let events = any_trace(&mut random, world, length);
+        let before = happens_before(&events);
+        for earlier in 0..events.len() {
+            let later = reached(&events, earlier);
+            let row: Vec<bool> = before.iter().map(|set| set.contains(earlier)).collect();
+            assert_eq!(row, later);
+        }
+    }
+}
+
+#[test]
+fn every_refusal_is_reached() {
+    let mut random = Random::from_seed(4);
+    let mut reached: BTreeMap<u8, usize> = BTreeMap::new();
+    let mut note = |answer: Result<(), Refusal>| {
+        *reached.entry(answer.map_or_else(|refusal| refusal.number, |()| 0)).or_default() += 1;
+    };
+    for _ in 0..20_000 {
+        let world = World::any(&mut random);
+        let length = random.below(12);
+        let trace = trace_text(&any_trace(&mut random, world, length));
+        let tables = tables_text(&any_tables(&mut random, world, length));
+        note(read_trace(&damaged(&mut random, &trace)).map(drop));
+        note(read_tables(&damaged(&mut random, &tables)).map(drop));
+        let order = any_damaged(&mut random, &recorded_order(length));
+        let mut room = |most| vec![0; random.below(most)];
+        let (mut list_room, mut tables_room, mut answers_room) = (room(20), room(2000), room(60));
+        note(list(&trace, &mut list_room).map(drop));
+        note(replay(&trace, &tables, &order, &mut tables_room, &mut answers_room).map(drop));
+    }
+    for number in [0, 1, 2, 3, 4, 5, 6, 7, 8, 11, 12, 13, 14, 15, 16, 21, 22, 31, 32, 33] {
+        let times = reached.get(&number).copied().unwrap_or(0);
+        assert!(times >= 50, "refusal {number} reached {times} times: {reached:?}");
+    }
+}
+
+/// End tables and answers in one order.
+fn replayed(trace: &[u8], tables: &[u8], order: &[u8]) -> Result<(Vec<u8>, Vec<u8>), u8> {
+    let (mut end, mut answers) = (vec![0; 53_760], vec![0; 7_424]);
+    match replay(trace, tables, order, &mut end, &mut answers) {
+        Ok(lengths) => {
+            end.truncate(lengths.tables);
+            answers.truncate(lengths.answers);
+            Ok((end, answers))
+        }
+        Err(refusal) => Err(refusal.number),
+    }
+}
+
+#[test]
+fn all_orders_of_small_traces() {
+    let mut random = Random::from_seed(5);
+    let (mut allowed, mut refused, mut flipped, mut differing) = (0, 0, 0, 0);
+    for _ in 0..800 {
+        let world = World { wide: false, switches: random.pick(&[1, 2]) };
+        let length = random.below(6);
+        let events = any_trace(&mut random, world, length);
+        let before = happens_before(&events);
+        let (_, listed) = racing_pairs(&events, &before);
+        let trace = trace_text(&events);
+        let tables = tables_text(&any_tables(&mut random, world, 4));
+        let recorded = replayed(&trace, &tables, &recorded_order(length));
+        assert!(recorded.is_ok());
+        for order in all_orders(length) {
+            let result = replayed(&trace, &tables, &order);
+            if is_allowed(&order, &before, &listed) {
+                allowed += 1;
+                assert_eq!(result, recorded, "{order:?}\n{}", String::from_utf8_lossy(&trace));
+            } else if is_allowed(&order, &before, &[]) {
+                flipped += 1;
+                differing += usize::from(result != recorded);
+            } else {
+                refused += 1;
+                assert_eq!(result, Err(22));
+            }
+        }
+    }
+    assert!(allowed > 2000 && refused > 2000 && flipped > 2000, "{allowed} {refused} {flipped}");
+    assert!(differing > flipped / 10, "{differing} of {flipped}");
+}
+
+#[test]
+fn random_allowed_orders() {
+    let mut random = Random::from_seed(6);
+    let mut moved = 0;
+    for _ in 0..600 {
+        let world = World::any(&mut random);
+        let length = any_length(&mut random);
+        let events = any_trace(&mut random, world, length);
+        let before = happens_before(&events);
+        let (_, listed) = racing_pairs(&events, &before);
+        let trace = trace_text(&events);
+        let tables = tables_text(&any_tables(&mut random, world, length));
+        let recorded_order = recorded_order(length);
+        let order = any_allowed(&mut random, &before, &listed);
+        assert!(is_allowed(&order, &before, &listed));
+        moved += usize::from(order != recorded_order);
+        let recorded = replayed(&trace, &tables, &recorded_order);
+        assert!(recorded.is_ok());
+        assert_eq!(replayed(&trace, &tables, &order), recorded, "{order:?}");
+    }
+    assert!(moved > 300, "{moved} orders differ from the recorded one");
+}
+
+#[test]
+fn worst_cases() {
+    let mut room = vec![0; 65_280];
+    let mut counts = |text: &[u8]| list(text, &mut room).expect("a valid text");
+    let all = 256 * 255 / 2;
+    let racing = Counts { pairs: all, ordered: 0, commuting: 0, listed: all };
+    assert_eq!(counts(&traces::all_racing()), racing);
+    assert_eq!(counts(&traces::all_racing_modifies()), racing);
+    assert_eq!(counts(&traces::token_chain()), Counts { ordered: all, listed: 0, ..racing });
+    let half = 128 * 127 / 2;
+    assert_eq!(counts(&traces::barriers()), Counts { pairs: half, ordered: half, commuting: 0, listed: 0 });
+    assert_eq!(counts(&traces::only_barriers()), Counts::default());
+    let (end, answers) =
+        replayed(&traces::long_adds(), &cases::tables::reversed(), &recorded_order(256)).unwrap();
+    assert_eq!((end.len(), answers.len()), (53_760, 0));
+    assert_eq!(normal_of(&cases::tables::reversed()), cases::tables::sorted());
+}

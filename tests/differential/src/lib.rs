@@ -1,0 +1,145 @@
+//! The proved library against the reference.
+//!
+//! Each function makes one call of both on the same input and on buffers that hold the same bytes, compares the
+//! two answers, refusals, refused lines and every byte of the buffers and around them, and gives the answer
+//! back. Where they differ it panics and prints the input.
+
+use std::fmt::Debug;
+use std::ops::Range;
+
+/// What both answered where they refused: number, place, and where the refused line stands.
+#[derive(Clone, Debug, PartialEq, Eq)]
+pub struct Refused {
+    /// Document 01's number.
+    pub number: usize,
+    /// A line, a position, the bytes needed, or 0.
+    pub place: usize,
+    /// The refused line.
+    pub line: Vec<u8>,
+    /// Where the refused line stands in its text, if it is not empty.
+    pub at: Option<usize>,
+}
+
+/// What both answered, with the bytes that they left in the buffer.
+pub type Answer<T> = Result<T, Refused>;
+
+/// The list call of both on a trace and a buffer of so many bytes.
+pub fn list(trace: &[u8], room: usize) -> Answer<(reference::Counts, Vec<u8>)> {
+    let (mut ours, mut theirs) = (Buffer::new(room), Buffer::new(room));
+    let proved = gellunka::list_races(trace, ours.bytes())
+        .map(|c| (c.pairs, c.ordered, c.commuting, c.listed))
+        .map_err(|r| from_library(&r, trace, b""));
+    let plain = reference::list(trace, theirs.bytes());
+    let expected = plain
+        .map(|c| (c.pairs, c.ordered, c.commuting, c.listed))
+        .map_err(|r| from_reference(&r, trace, b""));
+    let show = || format!("list call, buffer of {room} bytes\n{}", text("trace", trace));
+    same(&proved, &expected, show);
+    same_buffers(&ours, &theirs, show);
+    expected?;
+    Ok((plain.expect("not refused"), theirs.into_bytes()))
+}
+
+/// The normaliser of both on a table text and a buffer of so many bytes: the normal text.
+pub fn normalise(tables: &[u8], room: usize) -> Answer<Vec<u8>> {
+    let (mut ours, mut theirs) = (Buffer::new(room), Buffer::new(room));
+    let proved = gellunka::normalise(tables, ours.bytes()).map_err(|r| from_library(&r, b"", tables));
+    let expected = reference::normalise(tables, theirs.bytes()).map_err(|r| from_reference(&r, b"", tables));
+    let show = || format!("normaliser, buffer of {room} bytes\n{}", text("tables", tables));
+    same(&proved, &expected, show);
+    same_buffers(&ours, &theirs, show);
+    let length = expected?;
+    Ok(theirs.into_bytes()[..length].to_vec())
+}
+
+/// The two texts that a replay writes.
+#[derive(Clone, Debug, PartialEq, Eq)]
+pub struct Replayed {
+    /// The end tables.
+    pub tables: Vec<u8>,
+    /// The answers.
+    pub answers: Vec<u8>,
+}
+
+/// The replay call of both, with buffers of so many bytes for the end tables and the answers.
+pub fn replay(trace: &[u8], tables: &[u8], order: &[u8], rooms: [usize; 2]) -> Answer<Replayed> {
+    let [mut our_tables, mut our_answers] = rooms.map(Buffer::new);
+    let [mut their_tables, mut their_answers] = rooms.map(Buffer::new);
+    let proved = gellunka::replay(trace, tables, order, our_tables.bytes(), our_answers.bytes())
+        .map(|lengths| (lengths.tables, lengths.answers))
+        .map_err(|r| from_library(&r, trace, tables));
+    let expected = reference::replay(trace, tables, order, their_tables.bytes(), their_answers.bytes())
+        .map(|lengths| (lengths.tables, lengths.answers))
+        .map_err(|r| from_reference(&r, trace, tables));
+    let show = || {
+        let texts = [text("trace", trace), text("tables", tables)].concat();
+        format!("replay, order {order:?}, buffers of {rooms:?} bytes\n{texts}")
+    };
+    same(&proved, &expected, show);
+    same_buffers(&our_tables, &their_tables, show);
+    same_buffers(&our_answers, &their_answers, show);
+    let (tables, answers) = expected?;
+    Ok(Replayed {
+        tables: their_tables.into_bytes()[..tables].to_vec(),
+        answers: their_answers.into_bytes()[..answers].to_vec(),
+    })
+}
+
+/// A buffer that is lent to a call, between bytes that the call must not touch.
+struct Buffer {
+    all: Vec<u8>,
+    lent: Range<usize>,
+}
+
+impl Buffer {
+    const AROUND: usize = 16;
+
+    fn new(length: usize) -> Buffer {
+        // Bytes that differ from their neighbours, so that a shift is seen.
+        let all =
+            (0..=u8::MAX).cycle().map(|n| n.wrapping_mul(151)).take(length + 2 * Self::AROUND).collect();
+        Buffer { all, lent: Self::AROUND..Self::AROUND + length }
+    }
+
+    fn bytes(&mut self) -> &mut [u8] {
+        &mut self.all[self.lent.clone()]
+    }
+
+    fn into_bytes(self) -> Vec<u8> {
+        self.all[self.lent].to_vec()
+    }
+}
+
+fn same<T: PartialEq + Debug>(proved: &T, expected: &T, show: impl Fn() -> String) {
+    assert!(proved == expected, "library {proved:?}\nreference {expected:?}\n{}", show());
+}
+
+fn same_buffers(proved: &Buffer, expected: &Buffer, show: impl Fn() -> String) {
+    if proved.all != expected.all {
+        let at = proved.all.iter().zip(&expected.all).position(|(a, b)| a != b);
+        panic!("buffers differ, first {:?} bytes after 16 before the buffer\n{}", at, show());
+    }
+}
+
+fn from_library(refusal: &gellunka::Refusal, trace: &[u8], tables: &[u8]) -> Refused {
+    refused(refusal.reason.number(), refusal.place, refusal.line, trace, tables)
+}
+
+fn from_reference(refusal: &reference::Refusal, trace: &[u8], tables: &[u8]) -> Refused {
+    refused(usize::from(refusal.number), refusal.place, refusal.line, trace, tables)
+}
+
+fn refused(number: usize, place: usize, line: &[u8], trace: &[u8], tables: &[u8]) -> Refused {
+    let in_text = if number < 10 { trace } else { tables };
+    let at = (!line.is_empty()).then(|| {
+        let at = line.as_ptr().addr() - in_text.as_ptr().addr();
+        assert_eq!(&in_text[at..][..line.len()], line, "the refused line is a part of its text");
+        at
+    });
+    Refused { number, place, line: line.to_vec(), at }
+}
+
+/// A text as it is printed for a failing case: as Rust writes a byte string.
+fn text(name: &str, bytes: &[u8]) -> String {
+    format!("{name}, {} bytes: b\"{}\"\n", bytes.len(), bytes.escape_ascii())
+}

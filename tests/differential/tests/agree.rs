@@ -1,0 +1,213 @@
+//! Many thousands of texts, valid and damaged, short and at the limits, every refusal, buffer lengths around the
+//! needed one, orders allowed, refused and damaged: library and reference agree on each. The seeds are fixed.
+
+use cases::damage::damaged;
+use cases::orders::{all_orders, any_allowed, any_damaged, is_allowed};
+use cases::print::{tables_text, trace_text};
+use cases::tables::any_tables;
+use cases::traces::{any_length, any_trace};
+use cases::{lengths_around, Random, World};
+use differential::{list, normalise, replay, Answer};
+use reference::happens_before;
+use reference::races::racing_pairs;
+use reference::replay::recorded_order;
+use std::collections::BTreeMap;
+
+const LIST_ROOM: usize = 65_280;
+const ROOMS: [usize; 2] = [53_760, 7_424];
+
+/// How often each refusal was met; 0 stands for none.
+#[derive(Default)]
+struct Met(BTreeMap<usize, usize>);
+
+impl Met {
+    fn note<T>(&mut self, answer: &Answer<T>) {
+        let number = answer.as_ref().map_or_else(|refused| refused.number, |_| 0);
+        *self.0.entry(number).or_default() += 1;
+    }
+
+    fn assert_all(&self, numbers: &[usize], times: usize) {
+        for number in numbers {
+            let met = self.0.get(number).copied().unwrap_or(0);
+            assert!(met >= times, "refusal {number} was met {met} times: {:?}", self.0);
+        }
+    }
+}
+
+#[test]
+fn lists_of_valid_traces() {
+    let mut random = Random::from_seed(101);
+    for _ in 0..1_000 {
+        let world = World::any(&mut random);
+        let length = any_length(&mut random);
+        let trace = trace_text(&any_trace(&mut random, world, length));
+        let (counts, _) = list(&trace, LIST_ROOM).expect("a valid trace");
+        let needed = 2 * counts.listed;
+        for room in lengths_around(needed) {
+            let answer = list(&trace, room);
+            assert_eq!(answer.is_ok(), room >= needed);
+        }
+    }
+}
+
+#[test]
+fn lists_of_damaged_traces() {
+    let mut random = Random::from_seed(102);
+    let mut met = Met::default();
+    for _ in 0..10_000 {
+        let world = World::any(&mut random);
+        let length = if random.one_in(20) { any_length(&mut random) } else { random.below(8) };
+        let trace = trace_text(&any_trace(&mut random, world, length));
+        met.note(&list(&damaged(&mut random, &trace), LIST_ROOM));
+        let room = random.below(4);
+        met.note(&list(&damaged(&mut random, &trace), room));
+    }
+    met.assert_all(&[0, 1, 2, 3, 4, 5, 6, 7, 8, 31], 50);
+}
+
+#[test]
+fn normal_forms_of_valid_tables() {
+    let mut random = Random::from_seed(103);
+    for _ in 0..1_000 {
+        let world = World::any(&mut random);
+        let length = any_length(&mut random);
+        let mut entries = any_tables(&mut random, world, length);
+        let tables = tables_text(&entries);
+        for room in lengths_around(tables.len()) {
+            assert_eq!(normalise(&tables, room).is_ok(), room >= tables.len());
+        }
+        random.shuffle(&mut entries);
+        let typed_anew = tables_text(&entries);
+        let normal = normalise(&tables, tables.len()).expect("valid tables");
+        assert_eq!(normalise(&typed_anew, tables.len()), Ok(normal.clone()));
+        assert_eq!(normalise(&normal, tables.len()), Ok(normal));
+    }
+}
+
+#[test]
+fn normal_forms_of_damaged_tables() {
+    let mut random = Random::from_seed(104);
+    let mut met = Met::default();
+    for _ in 0..10_000 {
+        let world = World::any(&mut random);
+        let length = if random.one_in(20) { any_length(&mut random) } else { random.below(8) };
+        let tables = tables_text(&any_tables(&mut random, world, length));
+        met.note(&normalise(&damaged(&mut random, &tables), 65_535));
+        let room = random.below(1_000);
+        met.note(&normalise(&damaged(&mut random, &tables), room));
+    }
+    met.assert_all(&[0, 11, 12, 13, 14, 15, 16, 32], 50);
+}
+
+#[test]
+fn replays_of_valid_traces() {
+    let mut random = Random::from_seed(105);
+    let mut met = Met::default();
+    for _ in 0..300 {
+        let world = World::any(&mut random);
+        let (length, lines) = (any_length(&mut random), any_length(&mut random));
+        let trace = trace_text(&any_trace(&mut random, world, length));
+        let tables = tables_text(&any_tables(&mut random, world, lines));
+        let recorded = recorded_order(length);
+        let written = replay(&trace, &tables, &recorded, ROOMS).expect("all valid");
+        let needed = [written.tables.len(), written.answers.len()];
+        for short in lengths_around(needed[0]) {
+            met.note(&replay(&trace, &tables, &recorded, [short, needed[1]]));
+        }
+        for short in lengths_around(needed[1]) {
+            met.note(&replay(&trace, &tables, &recorded, [needed[0], short]));
+        }
+        for _ in 0..6 {
+            let order = any_damaged(&mut random, &recorded);
+            met.note(&replay(&trace, &tables, &order, ROOMS));
+        }
+    }
+    met.assert_all(&[0, 21, 22, 32, 33], 100);
+}
+
+#[test]
+fn replays_of_damaged_texts() {
+    let mut random = Random::from_seed(106);
+    let mut met = Met::default();
+    for _ in 0..8_000 {
+        let world = World::any(&mut random);
+        let length = random.below(8);
+        let mut trace = trace_text(&any_trace(&mut random, world, length));
+        let mut tables = tables_text(&any_tables(&mut random, world, length));
+        let mut order = recorded_order(length);
+        if random.one_in(3) {
+            trace = damaged(&mut random, &trace);
+        }
+        if random.one_in(2) {
+            tables = damaged(&mut random, &tables);
+        }
+        if random.one_in(2) {
+            order = any_damaged(&mut random, &order);
+        }
+        let rooms = if random.one_in(2) { ROOMS } else { [random.below(1_000), random.below(60)] };
+        met.note(&replay(&trace, &tables, &order, rooms));
+    }
+    let all = [0, 1, 2, 3, 4, 5, 6, 7, 8, 11, 12, 13, 14, 15, 16, 21, 22, 32, 33];
+    met.assert_all(&all, 10);
+}
+
+/// All orders of small traces: allowed ones agree with the recorded order, those that break happens-before are
+/// refused by 22, and of those that only turn a listed pair many give another result.
+#[test]
+fn all_orders_of_small_traces() {
+    let mut random = Random::from_seed(107);
+    let (mut allowed, mut refused, mut turned, mut differing) = (0, 0, 0, 0);
+    for _ in 0..400 {
+        let world = World { wide: false, switches: random.pick(&[1, 2]) };
+        let length = random.below(6);
+        let events = any_trace(&mut random, world, length);
+        let before = happens_before(&events);
+        let (_, listed) = racing_pairs(&events, &before);
+        let trace = trace_text(&events);
+        let tables = tables_text(&any_tables(&mut random, world, 4));
+        let recorded = replay(&trace, &tables, &recorded_order(length), ROOMS).expect("all valid");
+        for order in all_orders(length) {
+            let result = replay(&trace, &tables, &order, ROOMS);
+            if is_allowed(&order, &before, &listed) {
+                allowed += 1;
+                assert_eq!(result.as_ref(), Ok(&recorded));
+            } else if is_allowed(&order, &before, &[]) {
+                turned += 1;
+                differing += usize::from(result.as_ref() != Ok(&recorded));
+            } else {
+                refused += 1;
+                assert_eq!(result.unwrap_err().number, 22);
+            }
+        }
+    }
+    assert!(allowed > 1_000 && refused > 1_000 && turned > 500, "{allowed} {refused} {turned}");
+    assert!(differing > turned / 10, "{differing} of {turned}");
+}
+
+/// Demand 3: random allowed orders of a trace, from table texts that hold the same entries, write the bytes of the
+/// recorded order.
+#[test]
+fn allowed_orders_agree() {
+    let mut random = Random::from_seed(108);
+    let mut moved = 0;
+    for _ in 0..500 {
+        let world = World::any(&mut random);
+        let (length, lines) = (any_length(&mut random), any_length(&mut random));
+        let events = any_trace(&mut random, world, length);
+        let before = happens_before(&events);
+        let (_, listed) = racing_pairs(&events, &before);
+        let trace = trace_text(&events);
+        let mut entries = any_tables(&mut random, world, lines);
+        let tables = tables_text(&entries);
+        random.shuffle(&mut entries);
+        let typed_anew = tables_text(&entries);
+        let recorded = recorded_order(length);
+        let written = replay(&trace, &tables, &recorded, ROOMS).expect("all valid");
+        for _ in 0..3 {
+            let order = any_allowed(&mut random, &before, &listed);
+            moved += usize::from(order != recorded);
+            assert_eq!(replay(&trace, &typed_anew, &order, ROOMS).as_ref(), Ok(&written));
+        }
+    }
+    assert!(moved > 500, "{moved} orders differ from the recorded one");
+}

@@ -1,0 +1,41 @@
+//! The trace checker, replayer and table normaliser, written plainly from document 01.
+//!
+//! Nothing here was taken from the proved code, and no proof touches it: it is what the proved
+//! library is compared with. Each module follows one section of document 01:
+//!
+//! | module | section |
+//! |---|---|
+//! | [`flow`] | Matches; the entries and the order of a Flow table |
+//! | [`table`] | Flow table: what each event leaves and answers |
+//! | [`commute`] | Commuting |
+//! | [`trace`] | Trace text |
+//! | [`causality`] | Happens-before |
+//! | [`races`] | The list |
+//! | [`tables`] | Tables: table texts and their normal form |
+//! | [`replay`](mod@replay) | Replay, and what an order of events does |
+//! | [`refusal`] | Refusal table |
+//! | [`output`] | Program and worked lines |
+//!
+//! The three calls write into buffers that the caller lends, as the proved ones do:
+//! [`list`], [`normalise`] and [`replay()`].
+
+pub mod causality;
+pub mod commute;
+pub mod flow;
+pub mod output;
+pub mod races;
+pub mod refusal;
+pub mod replay;
+pub mod table;
+pub mod tables;
+pub mod trace;
+
+mod text;
+
+pub use causality::{happens_before, EventSet};
+pub use commute::commutes;
+pub use races::{list, Counts};
+pub use refusal::Refusal;
+pub use replay::{replay, Lengths};
+pub use tables::{normal_text, normalise, read_tables};
+pub use trace::read_trace;

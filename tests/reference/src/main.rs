@@ -1,0 +1,51 @@
+//! The reference as a program, which reads and prints as the project's programs do:
+//!
+//! ```text
+//! reference list < TRACE
+//! reference normalise < TABLES
+//! reference replay TRACE TABLES [ORDER]
+//! ```
+
+use reference::output::{normalised, racelist, replayed};
+use std::io::{self, Read, Write};
+use std::process::ExitCode;
+
+fn main() -> ExitCode {
+    let arguments: Vec<String> = std::env::args().skip(1).collect();
+    let arguments: Vec<&str> = arguments.iter().map(String::as_str).collect();
+    let output = match arguments[..] {
+        ["list"] => standard_input().map(|trace| racelist(&trace)),
+        ["normalise"] => standard_input().map(|tables| normalised(&tables)),
+        ["replay", trace, tables] => replay_files(trace, tables, None),
+        ["replay", trace, tables, order] => replay_files(trace, tables, Some(order)),
+        _ => Err("use: reference list | normalise | replay TRACE TABLES [ORDER]".to_owned()),
+    };
+    let written = output.and_then(|bytes| {
+        io::stdout().write_all(&bytes).map_err(|error| format!("standard output: {error}"))
+    });
+    match written {
+        Ok(()) => ExitCode::SUCCESS,
+        Err(message) => {
+            eprintln!("{message}");
+            ExitCode::FAILURE
+        }
+    }
+}
+
+fn replay_files(trace: &str, tables: &str, order: Option<&str>) -> Result<Vec<u8>, String> {
+    let (trace, tables) = (file(trace)?, file(tables)?);
+    let order = order.map(file).transpose()?;
+    Ok(replayed(&trace, &tables, order.as_deref()))
+}
+
+fn standard_input() -> Result<Vec<u8>, String> {
+    let mut bytes = Vec::new();
+    match io::stdin().read_to_end(&mut bytes) {
+        Ok(_) => Ok(bytes),
+        Err(error) => Err(format!("standard input: {error}")),
+    }
+}
+
+fn file(path: &str) -> Result<Vec<u8>, String> {
+    std::fs::read(path).map_err(|error| format!("{path}: {error}"))
+}

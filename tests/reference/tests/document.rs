@@ -1,0 +1,323 @@
+//! The sentences of document 01, one by one.
+
+use reference::replay::{check_order, recorded_order};
+use reference::{happens_before, list, normalise, read_tables, read_trace, replay, Counts, Lengths};
+
+const WORKED: &str = "\
+ev=0 do=pkt in=- out=1 sw=1 port=1 src=0a000001 dst=0a000002 proto=6 sport=4000 dport=80
+ev=1 do=oth in=1 out=2,3,4
+ev=2 do=add in=2 out=- sw=1 prio=10 port=* src=00000000/0 dst=0a000002/32 proto=* sport=* dport=* act=p2
+ev=3 do=add in=3 out=- sw=2 prio=10 port=* src=00000000/0 dst=0a000002/32 proto=* sport=* dport=* act=p3
+ev=4 do=pkt in=4 out=- sw=2 port=1 src=0a000001 dst=0a000002 proto=6 sport=4000 dport=80
+";
+
+const ANY: &str = "port=* src=00000000/0 dst=00000000/0 proto=* sport=* dport=*";
+
+/// Number, place and line of the refusal of a trace; number 0 where it is accepted.
+fn trace_refusal(text: &str) -> (u8, usize, String) {
+    match read_trace(text.as_bytes()) {
+        Ok(_) => (0, 0, String::new()),
+        Err(r) => (r.number, r.place, String::from_utf8(r.line.to_vec()).unwrap()),
+    }
+}
+
+/// The same of a table text.
+fn tables_refusal(text: &str) -> (u8, usize, String) {
+    match read_tables(text.as_bytes()) {
+        Ok(_) => (0, 0, String::new()),
+        Err(r) => (r.number, r.place, String::from_utf8(r.line.to_vec()).unwrap()),
+    }
+}
+
+/// End tables and answers, the order recorded or given; or number and place of the refusal.
+fn replayed(trace: &str, tables: &str, order: Option<&[u8]>) -> Result<(String, String), (u8, usize)> {
+    let recorded = recorded_order(trace.lines().count());
+    let (mut end, mut answers) = (vec![0; 65_536], vec![0; 65_536]);
+    let order = order.unwrap_or(&recorded);
+    match replay(trace.as_bytes(), tables.as_bytes(), order, &mut end, &mut answers) {
+        Ok(Lengths { tables, answers: length }) => Ok((
+            String::from_utf8(end[..tables].to_vec()).unwrap(),
+            String::from_utf8(answers[..length].to_vec()).unwrap(),
+        )),
+        Err(r) => Err((r.number, r.place)),
+    }
+}
+
+/// A trace of given `do` words and the items after `out`, without tokens.
+fn plain_trace(lines: &[(&str, String)]) -> String {
+    let line = |(index, (word, rest)): (usize, &(&str, String))| {
+        let space = if rest.is_empty() { "" } else { " " };
+        format!("ev={index} do={word} in=- out=-{space}{rest}\n")
+    };
+    lines.iter().enumerate().map(line).collect()
+}
+
+#[test]
+fn worked_lines() {
+    let mut out = [9; 4];
+    let counts = Counts { pairs: 2, ordered: 1, commuting: 0, listed: 1 };
+    assert_eq!(list(WORKED.as_bytes(), &mut out), Ok(counts));
+    assert_eq!(out, [3, 4, 9, 9]);
+    assert_eq!(list(b"", &mut out), Ok(Counts::default()));
+    let short = list(WORKED.as_bytes(), &mut out[..1]).unwrap_err();
+    assert_eq!((short.number, short.place, short.line), (31, 2, &b""[..]));
+}
+
+#[test]
+fn prefix_bits() {
+    let with = |dst: &str| WORKED.replacen("0a000002/32", dst, 1);
+    assert_eq!(trace_refusal(&with("0a000002/31")).0, 0);
+    let (number, place, line) = trace_refusal(&with("0a000001/31"));
+    assert_eq!((number, place), (6, 2));
+    assert_eq!(line, with("0a000001/31").lines().nth(2).unwrap());
+    assert_eq!(trace_refusal(&with("00000001/0")).0, 6);
+    assert_eq!(trace_refusal(&with("00000000/00")).0, 4);
+    assert_eq!(trace_refusal(&with("0a000000/08")).0, 4);
+    assert_eq!(trace_refusal(&with("0A000000/8")).0, 4);
+    assert_eq!(trace_refusal(&with("0a000000/33")).0, 4);
+    assert_eq!(trace_refusal(&with("0a00000/8")).0, 4);
+    assert_eq!(trace_refusal(&with("0a0000000/8")).0, 4);
+    assert_eq!(trace_refusal(&with("0a000000")).0, 4);
+}
+
+#[test]
+fn malformed_lines() {
+    let line = "ev=0 do=oth in=1,2 out=3";
+    assert_eq!(trace_refusal(&format!("{line}\n")).0, 0);
+    let bad = [
+        "",
+        " ev=0 do=oth in=- out=-",
+        "ev=0 do=oth in=- out=- ",
+        "ev=0  do=oth in=- out=-",
+        "ev=0 do=oth in=- out=-\r",
+        "ev=0 do=oth in=- out=-\0",
+        "ev=0 do=oth in= out=-",
+        "ev=0 do=oth in=1,2,3,4,5 out=-",
+        "ev=0 do=oth in=2,1 out=-",
+        "ev=0 do=oth in=1,1 out=-",
+        "ev=0 do=oth in=1, out=-",
+        "ev=0 do=oth in=65536 out=-",
+        "ev=0 do=oth out=- in=-",
+        "ev=0 do=oth in=- out=- sw=0",
+        "ev=0 do=Oth in=- out=-",
+        "ev=256 do=oth in=- out=-",
+        "ev=00 do=oth in=- out=-",
+        "ev=0 do=bar in=- out=- sw=16",
+        "ev=0 do=bar in=- out=-",
+        "ev=0 do=msg in=- out=- sw=1 prio=1",
+        "ev=1 do=oth in=- out=", // 4 before 5
+    ];
+    for bad in bad {
+        assert_eq!(trace_refusal(&format!("{bad}\n")), (4, 0, bad.to_owned()), "{bad}");
+    }
+    let writes = [
+        ("add", format!("sw=1 prio=1 {ANY} act=p01")),
+        ("add", format!("sw=1 prio=1 {ANY} act=p")),
+        ("add", format!("sw=1 prio=1 {ANY} act=P1")),
+        ("add", format!("sw=1 prio=1 {ANY}")),
+        ("add", format!("sw=1 {ANY} act=drop")),
+        ("dels", format!("sw=1 prio=1 {ANY} act=drop")),
+        ("deln", format!("sw=1 prio=1 {ANY}")),
+        ("pkt", format!("sw=1 {ANY}")),
+        ("addc", format!("sw=1 prio=65536 {ANY} act=drop")),
+        ("addc", format!("sw=1 prio=1 {} act=drop", ANY.replace("proto=*", "proto=256"))),
+    ];
+    for (word, rest) in writes {
+        assert_eq!(trace_refusal(&plain_trace(&[(word, rest.clone())])).0, 4, "{word} {rest}");
+    }
+}
+
+#[test]
+fn every_word_is_read() {
+    let entry = format!("sw=15 prio=65535 {ANY} act=ctl");
+    let packet = "sw=0 port=65535 src=ffffffff dst=00000000 proto=255 sport=0 dport=1".to_owned();
+    let trace = plain_trace(&[
+        ("pkt", packet),
+        ("add", entry.clone()),
+        ("addc", entry.clone()),
+        ("mods", entry.clone()),
+        ("modn", entry),
+        ("dels", format!("sw=1 prio=0 {ANY}")),
+        ("deln", format!("sw=1 {ANY}")),
+        ("bar", "sw=1".to_owned()),
+        ("msg", "sw=1".to_owned()),
+        ("oth", String::new()),
+    ]);
+    assert_eq!(read_trace(trace.as_bytes()).unwrap().len(), 10);
+}
+
+#[test]
+fn refusals_of_the_whole_text() {
+    let oth = |n: usize| -> String { (0..n).map(|i| format!("ev={i} do=oth in=- out=-\n")).collect() };
+    assert_eq!(trace_refusal(&oth(256)).0, 0);
+    assert_eq!(trace_refusal(&oth(257)), (3, 0, String::new()));
+    assert_eq!(trace_refusal("ev=0 do=oth in=- out=-").0, 2);
+    assert_eq!(trace_refusal(&"\n".repeat(65_536)).0, 1);
+    assert_eq!(trace_refusal(&"\n".repeat(65_535)).0, 3);
+    assert_eq!(trace_refusal(&"x".repeat(65_535)).0, 2);
+    assert_eq!(tables_refusal(&"x".repeat(65_536)), (11, 0, String::new()));
+    assert_eq!(tables_refusal("x").0, 12);
+    assert_eq!(tables_refusal(&"\n".repeat(257)).0, 13);
+    assert_eq!(tables_refusal("\n"), (14, 0, String::new()));
+    assert_eq!(tables_refusal(""), (0, 0, String::new()));
+}
+
+#[test]
+fn tokens_twice_and_too_early() {
+    let trace = |tokens: &[(&str, &str)]| -> String {
+        let line =
+            |(i, (taken, put)): (usize, &(&str, &str))| format!("ev={i} do=oth in={taken} out={put}\n");
+        tokens.iter().enumerate().map(line).collect()
+    };
+    let at = |tokens: &[(&str, &str)]| {
+        let (number, place, _) = trace_refusal(&trace(tokens));
+        (number, place)
+    };
+    assert_eq!(at(&[("7", "-"), ("7,8", "-")]), (0, 0));
+    assert_eq!(at(&[("-", "1,2"), ("-", "3"), ("-", "2"), ("-", "3")]), (7, 2));
+    assert_eq!(at(&[("1", "1")]), (8, 0));
+    assert_eq!(at(&[("-", "-"), ("1", "-"), ("-", "1")]), (8, 1));
+    // 7 over the trace before 8, also where 8 stands on an earlier line.
+    assert_eq!(at(&[("1", "-"), ("-", "1"), ("-", "1")]), (7, 2));
+    // 5 on a line before 7 over the trace.
+    assert_eq!(trace_refusal("ev=0 do=oth in=- out=1\nev=0 do=oth in=- out=1\n").0, 5);
+}
+
+#[test]
+fn barriers_and_chains() {
+    let write = format!("sw=1 {ANY}");
+    let packet = "sw=1 port=1 src=00000000 dst=00000000 proto=1 sport=1 dport=1".to_owned();
+    let bar = || ("bar", "sw=1".to_owned());
+    let trace = plain_trace(&[
+        ("deln", write.clone()),
+        bar(),
+        bar(),
+        ("pkt", packet),
+        ("msg", "sw=1".to_owned()),
+        ("deln", write),
+        ("bar", "sw=2".to_owned()),
+        ("msg", "sw=1".to_owned()),
+    ]);
+    let before = happens_before(&read_trace(trace.as_bytes()).unwrap());
+    let sets: Vec<Vec<usize>> =
+        before.iter().map(|set| (0..8).filter(|&e| set.contains(e)).collect()).collect();
+    let after_bars = vec![0, 1, 2];
+    let wanted =
+        [vec![], vec![0], vec![0, 1], vec![], after_bars.clone(), after_bars.clone(), vec![], after_bars];
+    assert_eq!(sets, wanted);
+}
+
+#[test]
+fn a_chain_joins_a_packet_through_tokens() {
+    let packet = "sw=1 port=1 src=00000000 dst=00000000 proto=1 sport=1 dport=1";
+    let trace = format!(
+        "ev=0 do=deln in=- out=- sw=1 {ANY}\nev=1 do=bar in=- out=1 sw=1\n\
+         ev=2 do=oth in=1 out=2\nev=3 do=pkt in=2 out=- {packet}\n"
+    );
+    let mut out = [0; 2];
+    let counts = Counts { pairs: 1, ordered: 1, commuting: 0, listed: 0 };
+    assert_eq!(list(trace.as_bytes(), &mut out), Ok(counts));
+}
+
+#[test]
+fn normal_form() {
+    let line = |sw: usize, prio: usize, port: &str| {
+        format!("sw={sw} prio={prio} {} act=drop\n", ANY.replacen("port=*", &format!("port={port}"), 1))
+    };
+    let (a, b, c, d) = (line(0, 1, "*"), line(2, 7, "*"), line(2, 7, "3"), line(2, 6, "*"));
+    let typed = format!("{d}{c}{b}{a}");
+    let mut out = vec![9; typed.len() + 1];
+    assert_eq!(normalise(typed.as_bytes(), &mut out), Ok(typed.len()));
+    assert_eq!(out, format!("{a}{b}{c}{d}\t").into_bytes());
+    let short = normalise(typed.as_bytes(), &mut out[..typed.len() - 1]).unwrap_err();
+    assert_eq!((short.number, short.place), (32, typed.len()));
+
+    let twice = format!("{a}{b}{d}{b}{a}");
+    assert_eq!(tables_refusal(&twice), (16, 3, b.trim_end().to_owned()));
+    // 14 and 15 of all lines before 16.
+    assert_eq!(tables_refusal(&format!("{twice}x\n")).0, 14);
+    assert_eq!(
+        tables_refusal(&format!("{twice}{}", a.replacen("src=00000000/0", "src=00000001/1", 1))).0,
+        15
+    );
+}
+
+#[test]
+fn each_operation_replayed() {
+    let dst = |value: &str| ANY.replacen("dst=00000000/0", &format!("dst={value}"), 1);
+    let (wide, narrow) = (dst("0a000000/8"), dst("0a010000/16"));
+    let packet = "sw=1 port=1 src=00000000 dst=0a010203 proto=1 sport=1 dport=1".to_owned();
+    let trace = plain_trace(&[
+        ("pkt", packet.clone()),
+        ("modn", format!("sw=1 prio=3 {wide} act=p1")),
+        ("pkt", packet.clone()),
+        ("addc", format!("sw=1 prio=3 {narrow} act=p2")),
+        ("addc", format!("sw=1 prio=4 {narrow} act=p2")),
+        ("pkt", packet.clone()),
+        ("add", format!("sw=1 prio=4 {wide} act=p3")),
+        ("pkt", packet.clone()),
+        ("modn", format!("sw=1 prio=9 {wide} act=ctl")),
+        ("mods", format!("sw=1 prio=4 {narrow} act=drop")),
+        ("dels", format!("sw=1 prio=3 {wide}")),
+        ("deln", format!("sw=1 {narrow}")),
+        ("pkt", packet),
+    ]);
+    let (end, answers) = replayed(&trace, "", None).unwrap();
+    assert_eq!(end, format!("sw=1 prio=4 {wide} act=ctl\n"));
+    assert_eq!(
+        answers,
+        "ev=0 hit=-\nev=2 hit=3,1,p1\nev=3 done=no\nev=4 done=yes\nev=5 hit=4,1,p2\n\
+         ev=7 hit=4,2,p3\nev=12 hit=4,1,ctl\n"
+    );
+}
+
+#[test]
+fn orders_refused() {
+    let trace = "ev=0 do=oth in=- out=1\nev=1 do=oth in=1 out=2\nev=2 do=oth in=2 out=-\n";
+    let before = happens_before(&read_trace(trace.as_bytes()).unwrap());
+    let refusal = |order: &[u8]| match check_order(order, &before) {
+        Ok(()) => (0, 0),
+        Err(r) => (r.number, r.place),
+    };
+    assert_eq!(refusal(&[0, 1, 2]), (0, 0));
+    assert_eq!(refusal(&[0, 2, 1]), (22, 1));
+    assert_eq!(refusal(&[2, 1, 0]), (22, 0));
+    assert_eq!(refusal(&[1, 0, 2]), (22, 0));
+    for bad in [&[][..], &[0, 1], &[0, 1, 1], &[0, 1, 3], &[0, 1, 2, 2], &[0, 1, 2, 3]] {
+        assert_eq!(refusal(bad), (21, 0), "{bad:?}");
+    }
+}
+
+#[test]
+fn refusals_of_replay_in_their_order() {
+    let bad_order: &[u8] = &[0, 0, 0, 0, 0];
+    assert_eq!(replayed("x\n", "x", None), Err((4, 0)));
+    assert_eq!(replayed(WORKED, "x", Some(bad_order)), Err((12, 0)));
+    assert_eq!(replayed(WORKED, "", Some(bad_order)), Err((21, 0)));
+    assert_eq!(replayed(WORKED, "", Some(&[0, 4, 1, 2, 3])), Err((22, 1)));
+    let (end, answers) = replayed(WORKED, "", None).unwrap();
+    let (tables, room) = (&mut vec![7; end.len()], &mut vec![7; answers.len()]);
+    let order = recorded_order(5);
+    let mut at = |short: usize, shorter: usize| {
+        let (tables, room) = (&mut tables[short..], &mut room[shorter..]);
+        let answer = replay(WORKED.as_bytes(), b"", &order, tables, room);
+        if answer.is_err() {
+            assert!(tables.iter().chain(room.iter()).all(|&byte| byte == 7));
+        }
+        answer.map_err(|r| (r.number, r.place))
+    };
+    assert_eq!(at(1, 1), Err((32, end.len())));
+    assert_eq!(at(0, 1), Err((33, answers.len())));
+    assert_eq!(at(0, 0), Ok(Lengths { tables: end.len(), answers: answers.len() }));
+}
+
+#[test]
+fn the_most_that_is_written() {
+    let line = |sw: usize, port: usize| {
+        format!("sw={sw} prio=65535 port={port} src=ffffff00/30 dst=ffffff00/30 proto=255 sport=65535 dport=65535 act=p65535")
+    };
+    let tables: String = (0..256).map(|i| line(15, 65_000 + i) + "\n").collect();
+    let writes: Vec<(&str, String)> = (0..256).map(|i| ("add", line(14, 65_000 + i))).collect();
+    let (end, answers) = replayed(&plain_trace(&writes), &tables, None).unwrap();
+    assert_eq!((end.len(), end.lines().count(), answers.len()), (53_760, 512, 0));
+}

@@ -3,8 +3,7 @@ use crate::event::Event;
 use crate::tokens::Tokens;
 use table::Operation;
 ghost use mathlib.Core.Path.{_≡_};
-ghost use mathlib.Core.List.{[], _∷_, _++_};
-ghost use Prim.Native.Nat.{_+_, _<_};
+ghost use mathlib.Core.List.{[]};
 ghost use Rattle.events.specs.Events.{eventsOf};
 
 pub struct Trace {
@@ -30,17 +29,5 @@ impl Trace {
         };
         let events = [idle; 256];
         Trace { events, len: 0 }
-    }
-
-    // One event more, at the end.
-    pub fn push(self, e: Event) -> Trace
-        requires { ⌜ self .len < 256 ⌝ }
-        ensures { λ r. ⌜ (eventsOf r ≡ eventsOf self ++ (e ∷ [])) × (r .len ≡ self .len + 1) ⌝ }
-    {
-        let n = self.len;
-        let mut next = self;
-        next.events[n] = e;
-        next.len = n + 1;
-        next
     }
 }

@@ -1,11 +1,11 @@
 -- Which texts are accepted, and as which events: exactly those that `IsTrace` describes. So one text is one trace, and what its
 -- events carry is in range. Assumes nothing.
-use mathlib.Core.Path.{_≡_, refl, sym, _∙_, ap}
+use mathlib.Core.Path.{_≡_, refl, _∙_, ap}
 use mathlib.Core.Logic.{_↔_, _⊎_, inl, inr}
-use mathlib.Core.Bool.{Bool, true, false, cond}
+use mathlib.Core.Bool.{true, false}
 use mathlib.Core.List.{List, [], _∷_}
 use mathlib.Core.Option.{Option, none, some}
-use Prim.Native.Nat.{ℕ, zero, suc, _+_, _≤_, _<_}
+use Prim.Native.Nat.{ℕ, suc, _+_, _≤_, _<_}
 use native.Mathlib.Omega.{arith}
 use lib.Dec.{eqb, ltb}
 use lib.ListN.{length}
@@ -16,9 +16,9 @@ use Rattle.eventline.specs.EventLine.{printLine, clearEvent, readLine, onLine, 
 use Rattle.eventline.specs.Written.{EventWritten, EventInRange}
 use Rattle.eventline.proofs.LineFormat.{line-format}
 use Rattle.eventline.proofs.EventRanges.{event-range}
-use Rattle.trace.specs.Types.{Refusal, TraceTooLong, TraceUnended, TraceTooManyLines, TokenTwice, TokenTooEarly, Event}
+use Rattle.trace.specs.Types.{Refusal, TokenTwice, TokenTooEarly, Event}
 use Rattle.trace.specs.Search.{lowest}
-use Rattle.trace.specs.TraceText.{twice, tooEarly, refusedAt, checkTokens, inFront, onEvent, readLines, onEvents, readTrace}
+use Rattle.trace.specs.TraceText.{twice, tooEarly, refusedAt, checkTokens, onEvent, readLines, onEvents, readTrace}
 use Rattle.trace.specs.Meaning.{TwiceAt, EarlyAt, LowestLine, printFrom, AllWritten, IsTrace}
 use Rattle.trace.proofs.TokenMeaning.{twice-iff, early-iff, lowest-found, lowest-none}
 

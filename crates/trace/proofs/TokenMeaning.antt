@@ -1,13 +1,12 @@
 -- What refusals 7 and 8 mean: the searches find the lowest line whose token stands twice, or too early, and nothing else. Assumes
 -- nothing.
 use mathlib.Core.Path.{_≡_, refl, sym, _∙_, ap}
-use mathlib.Core.Logic.{_↔_, _⊎_, inl, inr}
-use mathlib.Core.Bool.{Bool, true, false, _&&_, _||_, cond, false≢true, true≢false, or-true}
+use mathlib.Core.Logic.{_↔_}
+use mathlib.Core.Bool.{Bool, true, false, false≢true, true≢false, or-true}
 use mathlib.Core.List.{List, [], _∷_}
-use mathlib.Core.Option.{Option, none, some, Option·some-injective, Option·none-ne-some}
+use mathlib.Core.Option.{none, some, Option·some-injective, Option·none-ne-some}
 use Prim.Native.Nat.{ℕ, zero, suc, _+_, _≤_, _<_}
 use native.Mathlib.Omega.{arith}
-use native.Mathlib.Numerals.{add-one}
 use lib.Dec.{eqb, leb}
 use lib.ListN.{length}
 use borrow.Author.Tests.{eqb-true, eqb-false, eq-eqb, leb-true, le-leb}
@@ -54,7 +53,7 @@ unfolding shares
 shares-of ss ts t h k = token-any (λ u. has u ts) ss t h k
 
 -- ---- some line puts out one of the tokens
-line-found : (es : List Event) (tokens : List ℕ) (from to : ℕ) → putsOut es tokens from to ≡ true
+line-found : (es : List Event) (tokens : List ℕ) (from to : ℕ) → putsOut (outsAt es) tokens from to ≡ true
     → (k : ℕ) × (from ≤ k) × (k < to) × (t : ℕ) × (has t tokens ≡ true) × (has t (outsAt es k) ≡ true)
 unfolding putsOut
 line-found es tokens from to h =
@@ -63,7 +62,7 @@ line-found es tokens from to h =
     (r .0, leb-true from (r .0) (and-left _ (shares tokens (outsAt es (r .0))) (r .2)), r .1, s .0, s .1, s .2)
 
 line-finds : (es : List Event) (tokens : List ℕ) (from to k t : ℕ) → from ≤ k → k < to → has t tokens ≡ true → has t (outsAt es k) ≡ true
-    → putsOut es tokens from to ≡ true
+    → putsOut (outsAt es) tokens from to ≡ true
 unfolding putsOut
 line-finds es tokens from to k t a b h g = below-any _ to k b (and-intro (le-leb from k a) (shares-of tokens (outsAt es k) t h g))
 

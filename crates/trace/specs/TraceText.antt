@@ -19,17 +19,17 @@ insAt es i = tokensOf (eventAt es i .ins)
 abbrev pub outsAt : List Event → ℕ → List ℕ
 outsAt es i = tokensOf (eventAt es i .outs)
 
--- some line from `from` on and before `to` puts out one of the tokens
-unfoldable pub putsOut : List Event → List ℕ → ℕ → ℕ → Bool
-putsOut es tokens from to = anyBelow (λ k. leb from k && shares tokens (outsAt es k)) to
+-- some line from `from` on and before `to` puts out one of the tokens, where `outs` has what each line puts out
+unfoldable pub putsOut : (ℕ → List ℕ) → List ℕ → ℕ → ℕ → Bool
+putsOut outs tokens from to = anyBelow (λ k. leb from k && shares tokens (outs k)) to
 
 -- 7: a token of line j's `out` stands in `out` of an earlier line
 unfoldable pub twice : List Event → ℕ → Bool
-twice es j = putsOut es (outsAt es j) 0 j
+twice es j = putsOut (outsAt es) (outsAt es j) 0 j
 
 -- 8: a token of line i's `in` stands in `out` of this or a later line
 unfoldable pub tooEarly : List Event → ℕ → Bool
-tooEarly es i = putsOut es (insAt es i) i (length es)
+tooEarly es i = putsOut (outsAt es) (insAt es i) i (length es)
 
 -- refused at a place that was found
 abbrev pub refusedAt : {A : Type 0} → (ℕ → Refusal) → Option ℕ → Refusal ⊎ A → Refusal ⊎ A

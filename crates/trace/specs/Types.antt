@@ -2,6 +2,7 @@
 pub use Rattle.refusals.specs.declared.refusal.Refusal.{Refusal}
 pub use Rattle.refusals.specs.declared.refusal.Refusal.the-variants.{TraceTooLong, TraceUnended, TraceTooManyLines, TokenTwice, TokenTooEarly}
 pub use Rattle.events.specs.declared.event.Event.{Event}
+pub use Rattle.events.specs.declared.tokens.Tokens.{Tokens}
 pub use Rattle.events.specs.declared.trace.Trace.{Trace}
 pub use Rattle.trace.specs.declared.tokens.Place.{Place}
 pub use Rattle.trace.specs.declared.text.Outcome.{Outcome}

@@ -2,9 +2,9 @@
 use Prim.Native.Nat.{_≤_, _-_}
 use mathlib.Core.Path.{_≡_, _∙_, ap}
 use native.Mathlib.Omega.{arith}
-use lib.ListN.{length}
+use lib.ListN.{length, getD}
 use borrow.Author.Needs.{needs}
-use Rattle.events.specs.Events.{tokensOf, eventsOf}
+use Rattle.events.specs.Events.{tokensOf, noTokens}
 use Rattle.events.proofs.TraceLaws.{length-mapped}
 use Rattle.trace.specs.TraceText.{putsOut}
 use Rattle.trace.proofs.TokenChecks.{puts-none, puts-more}
@@ -12,19 +12,19 @@ use Rattle.trace.proofs.tokens.puts_out.Statement.{statement}
 use Rattle.trace.proofs.tokens.puts_out.Tie as tie
 
 abbrev Inv-loop : tie.InvT-loop
-Inv-loop tokens from to t found₀ k₀ found k =
-    (from ≤ k) × (k ≤ to) × (length (t .events) ≡ 256) × (found ≡ putsOut (eventsOf t) (tokensOf tokens) from k)
+Inv-loop tokens from to all found₀ k₀ found k =
+    (from ≤ k) × (k ≤ to) × (length all ≡ 256) × (found ≡ putsOut (λ i. tokensOf (getD all i noTokens)) (tokensOf tokens) from k)
 
 abbrev μ-loop : tie.MeasureT-loop
-μ-loop tokens from to t found₀ k₀ found k = to - k
+μ-loop tokens from to all found₀ k₀ found k = to - k
 
 loop-holds : tie.Need-loop-holds Inv-loop μ-loop
 loop-holds c = (omega arith, omega arith, search (needs, length-mapped), puts-none _ _ _)
 
 loop-again : tie.Need-loop-again Inv-loop μ-loop
 loop-again c =
-    let l = c .before .before .before .before in
-    (omega arith, omega arith, l .loop .inv .2, puts-more _ _ _ _ (omega arith) (l .loop .inv .0) (l .loop .inv .3) (c .shares .ensures))
+    let l = c .before .before .before in
+    (omega arith, omega arith, l .loop .inv .2, puts-more _ _ _ _ (l .loop .inv .0) (l .loop .inv .3) (c .shares .ensures))
 
 returns : tie.Need-returns Inv-loop μ-loop
 returns c =

@@ -14,10 +14,10 @@ use Rattle.trace.proofs.tokens.token_too_early.Statement.{statement}
 use Rattle.trace.proofs.tokens.token_too_early.Tie as tie
 
 abbrev Inv-loop : tie.InvT-loop
-Inv-loop t n i₀ i = (length (t .events) ≡ 256) × (lowest (tooEarly (eventsOf t)) (t .len) ≡ lowestFrom (tooEarly (eventsOf t)) i (t .len - i))
+Inv-loop t n all i₀ i = (length (t .events) ≡ 256) × (lowest (tooEarly (eventsOf t)) (t .len) ≡ lowestFrom (tooEarly (eventsOf t)) i (t .len - i))
 
 abbrev μ-loop : tie.MeasureT-loop
-μ-loop t n i₀ i = n - i
+μ-loop t n all i₀ i = n - i
 
 loop-holds : tie.Need-loop-holds Inv-loop μ-loop
 unfolding lowest
@@ -26,13 +26,13 @@ loop-holds c = (search (needs, length-mapped), rw sub-zero)
 returns : tie.Need-returns Inv-loop μ-loop
 returns c =
     let l = c .before .before .before .before in
-    lowest-here _ _ _ (l .loop-test .taken) (early-test _ _ (l .loop-test .taken) (omega arith) (c .before .puts-out .ensures) (c .if1 .taken)) ∙ sym (l .before .loop .inv .1)
+    lowest-here _ _ _ (l .loop-test .taken) (early-test _ (l .before .before .all-outs .result) (l .before .before .all-outs .ensures) _ (l .loop-test .taken) (omega arith) (c .before .puts-out .ensures) (c .if1 .taken)) ∙ sym (l .before .loop .inv .1)
 
 loop-again : tie.Need-loop-again Inv-loop μ-loop
 loop-again c =
     let l = c .before .before .before .before in
     let i = l .before .loop .inv in
-    (i .0, i .1 ∙ lowest-on _ _ _ (l .loop-test .taken) (early-test _ _ (l .loop-test .taken) (omega arith) (c .before .puts-out .ensures) (c .if1 .left)))
+    (i .0, i .1 ∙ lowest-on _ _ _ (l .loop-test .taken) (early-test _ (l .before .before .all-outs .result) (l .before .before .all-outs .ensures) _ (l .loop-test .taken) (omega arith) (c .before .puts-out .ensures) (c .if1 .left)))
 
 returns-2 : tie.Need-returns-2 Inv-loop μ-loop
 returns-2 c = lowest-end _ _ _ (c .loop-test .left) ∙ sym (c .before .loop .inv .1)
@@ -42,8 +42,8 @@ token-too-early-spec =
     tie.close
     (tie.spec
     Inv-loop
-    μ-loop
-    loop-holds (λ c. omega arith) (λ c. omega arith) (λ c. omega arith) (λ c κs. (omega arith, omega arith, omega arith))
+    μ-loop (λ c κs. omega arith)
+    loop-holds (λ c. omega arith) (λ c. omega arith) (λ c. omega arith) (λ c κs. (omega arith, omega arith))
     returns (λ c. omega arith)
     loop-again
     returns-2)

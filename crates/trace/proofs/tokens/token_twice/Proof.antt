@@ -14,10 +14,10 @@ use Rattle.trace.proofs.tokens.token_twice.Statement.{statement}
 use Rattle.trace.proofs.tokens.token_twice.Tie as tie
 
 abbrev Inv-loop : tie.InvT-loop
-Inv-loop t n j₀ j = (length (t .events) ≡ 256) × (lowest (twice (eventsOf t)) (t .len) ≡ lowestFrom (twice (eventsOf t)) j (t .len - j))
+Inv-loop t n all j₀ j = (length (t .events) ≡ 256) × (lowest (twice (eventsOf t)) (t .len) ≡ lowestFrom (twice (eventsOf t)) j (t .len - j))
 
 abbrev μ-loop : tie.MeasureT-loop
-μ-loop t n j₀ j = n - j
+μ-loop t n all j₀ j = n - j
 
 loop-holds : tie.Need-loop-holds Inv-loop μ-loop
 unfolding lowest
@@ -26,13 +26,13 @@ loop-holds c = (search (needs, length-mapped), rw sub-zero)
 returns : tie.Need-returns Inv-loop μ-loop
 returns c =
     let l = c .before .before .before .before in
-    lowest-here _ _ _ (l .loop-test .taken) (twice-test _ _ (l .loop-test .taken) (c .before .puts-out .ensures) (c .if1 .taken)) ∙ sym (l .before .loop .inv .1)
+    lowest-here _ _ _ (l .loop-test .taken) (twice-test _ (l .before .before .all-outs .result) (l .before .before .all-outs .ensures) _ (l .loop-test .taken) (c .before .puts-out .ensures) (c .if1 .taken)) ∙ sym (l .before .loop .inv .1)
 
 loop-again : tie.Need-loop-again Inv-loop μ-loop
 loop-again c =
     let l = c .before .before .before .before in
     let i = l .before .loop .inv in
-    (i .0, i .1 ∙ lowest-on _ _ _ (l .loop-test .taken) (twice-test _ _ (l .loop-test .taken) (c .before .puts-out .ensures) (c .if1 .left)))
+    (i .0, i .1 ∙ lowest-on _ _ _ (l .loop-test .taken) (twice-test _ (l .before .before .all-outs .result) (l .before .before .all-outs .ensures) _ (l .loop-test .taken) (c .before .puts-out .ensures) (c .if1 .left)))
 
 returns-2 : tie.Need-returns-2 Inv-loop μ-loop
 returns-2 c = lowest-end _ _ _ (c .loop-test .left) ∙ sym (c .before .loop .inv .1)
@@ -42,8 +42,8 @@ token-twice-spec =
     tie.close
     (tie.spec
     Inv-loop
-    μ-loop
-    loop-holds (λ c. omega arith) (λ c. omega arith) (λ c. omega arith) (λ c κs. (omega arith, omega arith, omega arith))
+    μ-loop (λ c κs. omega arith)
+    loop-holds (λ c. omega arith) (λ c. omega arith) (λ c. omega arith) (λ c κs. (omega arith, omega arith))
     returns (λ c. omega arith)
     loop-again
     returns-2)

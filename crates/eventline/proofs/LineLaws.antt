@@ -1,22 +1,61 @@
 -- A line, by what each of its items reads as.
 use Prim.Native.Nat.{ℕ}
-use mathlib.Core.Bool.{true, false}
+use mathlib.Core.Bool.{Bool, true, false, cond}
 use mathlib.Core.List.{List}
 use mathlib.Core.Logic.{_⊎_, inl, inr}
 use mathlib.Core.Option.{Option, none, some}
 use mathlib.Core.Path.{_≡_, refl, sym, ap, _∙_}
-use borrow.Author.Tests.{eq-eqb, ne-eqb}
+use lib.Dec.{eqb}
 use lib.ListN.{length}
-use Rattle.digits.specs.Reading.{andThen, mapped, keyed, both}
+use Rattle.digits.specs.Reading.{Reader, andThen, mapped, keyed, both}
 use Rattle.digits.specs.Number.{readNumber}
-use Rattle.eventline.specs.Types.{TraceMalformed, EventMisnumbered, TraceAddressBit, Tokens, Operation, Word}
+use Rattle.eventline.specs.declared.words.Word.the-variants as W
+use Rattle.eventline.specs.Types.{TraceMalformed, EventMisnumbered, TraceAddressBit, Tokens, Operation, Other, Event, Word}
 use Rattle.eventline.specs.Words.{readWord}
 use Rattle.eventline.specs.TokenLists.{readTokens}
-use Rattle.eventline.specs.EventLine.{evKey, doKey, inKey, outKey, readOperation, readBehind, readItems, readNumbered, readLine, readEvent, clearOperation}
+use Rattle.eventline.specs.EventLine.{evKey, doKey, inKey, outKey, swKey, readSwitch, readOn, readOperation, readBehind, readItems, readNumbered, readLine, onLine, readEvent, clearOperation}
 
 -- what an arm reads is what the word asks for
-pub by-word : (s : List ℕ) (at : ℕ) {x : Option (Operation × ℕ)} {w v : Word} → w ≡ v → x ≡ readOperation v s at → x ≡ readOperation w s at
-by-word s at e h = h ∙ ap (λ u. readOperation u s at) (sym e)
+pub by-word : (w : ℕ) (s : List ℕ) (at : ℕ) {x : Option (Operation × ℕ)} {u v : Word} → u ≡ v → x ≡ readOn v w s at → x ≡ readOn u w s at
+by-word w s at e h = h ∙ ap (λ u. readOn u w s at) (sym e)
+
+-- what is made of a value that was read
+module _ {A B : Type 0} (f : A → B) (read : Reader A) (s : List ℕ) (at : ℕ) where
+  pub mapped-none : read s at ≡ none → none ≡ mapped f read s at
+  unfolding mapped
+  mapped-none e = rw e refl
+
+  pub mapped-some : {a : A} {n : ℕ} → read s at ≡ some (a, n) → some (f a, n) ≡ mapped f read s at
+  unfolding mapped
+  mapped-some e = rw e refl
+
+-- for all words but `oth` the switch is read, and then the word's own fields
+module _ (s : List ℕ) (at : ℕ) where
+  pub no-switch : {u : Word} → u ≡ W.Other → some (Other, at) ≡ readOperation u s at
+  unfolding readOperation
+  no-switch e = rw e refl
+
+  behind-switch : (u : Word) → (u ≡ W.Other → ⊥) → andThen readSwitch (readOn u) s at ≡ readOperation u s at
+  unfolding readOperation
+  behind-switch W.Other h = absurd (h refl)
+  behind-switch W.Barrier h = refl
+  behind-switch W.Message h = refl
+  behind-switch W.Packet h = refl
+  behind-switch W.Add h = refl
+  behind-switch W.AddChecked h = refl
+  behind-switch W.ModifyStrict h = refl
+  behind-switch W.Modify h = refl
+  behind-switch W.DeleteStrict h = refl
+  behind-switch W.Delete h = refl
+
+  module _ (u : Word) (h : u ≡ W.Other → ⊥) where
+    pub bad-switch : keyed swKey (readNumber 15) s at ≡ none → none ≡ readOperation u s at
+    unfolding andThen readSwitch
+    bad-switch e = rw (← behind-switch u h, e) refl
+
+    pub on-switch : {x : Option (Operation × ℕ)} {w n : ℕ} → keyed swKey (readNumber 15) s at ≡ some (w, n) → x ≡ readOn u w s n → x ≡ readOperation u s at
+    unfolding andThen readSwitch
+    on-switch e r = r ∙ rw (← behind-switch u h, e) refl
 
 -- the answer for line k
 module _ (k : ℕ) (l : List ℕ) where
@@ -45,20 +84,22 @@ module _ (k : ℕ) (l : List ℕ) where
           bad-operation e = rw (e₁, e₂, e₃, e₄, e) refl
 
           module _ {p : Operation} {m : ℕ} (e₅ : readOperation w l d ≡ some (p, m)) where
-            pub bad-end : (m ≡ length l → ⊥) → inl (TraceMalformed k) ≡ readEvent k l
+            pub items-read : onLine k (cond (eqb m (length l)) (some (n, record { ins = i; outs = o; operation = p })) none) ≡ readEvent k l
             unfolding readEvent readLine readNumbered readItems readBehind both andThen mapped
-            bad-end h = rw (e₁, e₂, e₃, e₄, e₅, ne-eqb _ _ h) refl
+            items-read = rw (e₁, e₂, e₃, e₄, e₅) refl
 
-            module _ (e₆ : m ≡ length l) where
-              pub other-number : (n ≡ k → ⊥) → inl (EventMisnumbered k) ≡ readEvent k l
-              unfolding readEvent readLine readNumbered readItems readBehind both andThen mapped
-              other-number h = rw (e₁, e₂, e₃, e₄, e₅, eq-eqb _ _ e₆, ne-eqb _ _ h) refl
+-- 4 at the line's end, 5, 6
+module _ (k n : ℕ) (e : Event) (ended : Bool) where
+  pub not-ended : ended ≡ false → inl (TraceMalformed k) ≡ onLine k (cond ended (some (n, e)) none)
+  not-ended h = rw h refl
 
-              module _ (e₇ : n ≡ k) where
-                pub address-bit : clearOperation p ≡ false → inl (TraceAddressBit k) ≡ readEvent k l
-                unfolding readEvent readLine readNumbered readItems readBehind both andThen mapped
-                address-bit h = rw (e₁, e₂, e₃, e₄, e₅, eq-eqb _ _ e₆, eq-eqb _ _ e₇, h) refl
+  module _ (a : ended ≡ true) where
+    pub other-number : eqb n k ≡ false → inl (EventMisnumbered k) ≡ onLine k (cond ended (some (n, e)) none)
+    other-number h = rw (a, h) refl
 
-                pub event-read : clearOperation p ≡ true → inr (record { ins = i; outs = o; operation = p }) ≡ readEvent k l
-                unfolding readEvent readLine readNumbered readItems readBehind both andThen mapped
-                event-read h = rw (e₁, e₂, e₃, e₄, e₅, eq-eqb _ _ e₆, eq-eqb _ _ e₇, h) refl
+    module _ (b : eqb n k ≡ true) where
+      pub address-bit : clearOperation (e .operation) ≡ false → inl (TraceAddressBit k) ≡ onLine k (cond ended (some (n, e)) none)
+      address-bit h = rw (a, b, h) refl
+
+      pub event-read : clearOperation (e .operation) ≡ true → inr e ≡ onLine k (cond ended (some (n, e)) none)
+      event-read h = rw (a, b, h) refl

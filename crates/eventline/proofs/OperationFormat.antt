@@ -1,12 +1,12 @@
 -- The rest of a line, behind `in` and `out`: for each word a format of its own fields, and so one of the operations of that word.
 use Prim.Native.Nat.{ℕ, _+_, _≤_}
 use mathlib.Core.List.{List, [], _++_}
-use mathlib.Core.Option.{some}
+use mathlib.Core.Option.{Option, none, some}
 use mathlib.Core.Path.{_≡_, refl, sym, _∙_, ap, subst}
 use native.Mathlib.Nat.{add-zero}
 use native.Mathlib.Omega.{arith}
 use lib.ListN.{length, drop}
-use Rattle.digits.specs.Reading.{Reader, mapped, both}
+use Rattle.digits.specs.Reading.{Reader, onRead, andThen, mapped, both}
 use Rattle.digits.specs.Print.{printNumber}
 use Rattle.digits.specs.Format.{Ends, Follows, Format}
 use Rattle.digits.proofs.Readers.{same-value, same-place, on-read}
@@ -20,7 +20,7 @@ use Rattle.fields.proofs.MatchFormats.{space-ends, match-follows, match-format,
 use Rattle.fields.proofs.EntryFormats.{key-follows, key-format, entry-follows, entry-format}
 use Rattle.eventline.specs.declared.words.Word.the-variants as W
 use Rattle.eventline.specs.Types.{Match, Packet, Key, Entry, Lookup, Add, AddChecked, ModifyStrict, Modify, DeleteStrict, Delete, Operation, Other, Barrier, Message, OnTable, Word}
-use Rattle.eventline.specs.EventLine.{swKey, printSwitch, printOperation, readSwitch, onSwitch, readOperation, wordOf}
+use Rattle.eventline.specs.EventLine.{swKey, printSwitch, printOperation, readSwitch, readOn, readOperation, wordOf}
 use Rattle.eventline.specs.Written.{OperationWritten}
 
 -- ---- the fields of each word
@@ -159,18 +159,33 @@ prints W.Modify x = refl
 prints W.DeleteStrict x = refl
 prints W.Delete x = refl
 
+-- a switch, and then what a value behind it makes
+behind-switch : {A : Type 0} (f : ℕ → A → Operation) (read : Reader A) (s : List ℕ) (at : ℕ)
+    → andThen readSwitch (λ w. mapped (f w) read) s at ≡ mapped (λ (w, a). f w a) (both readSwitch read) s at
+unfolding andThen mapped both
+behind-switch {A} f read s at = go (readSwitch s at)
+  where
+    go : (r : Option (ℕ × ℕ)) → onRead r (λ w n. onRead (read s n) (λ a m. some (f w a, m)))
+        ≡ onRead (onRead r (λ w n. onRead (read s n) (λ a m. some ((w, a), m)))) (λ (w, a) m. some (f w a, m))
+    go none = refl
+    go (some r) = on (read s (r .1))
+      where
+        on : (q : Option (A × ℕ)) → onRead q (λ a m. some (f (r .0) a, m)) ≡ onRead (onRead q (λ a m. some ((r .0, a), m))) (λ (w, a) m. some (f w a, m))
+        on none = refl
+        on (some q) = refl
+
 reads-fields : (w : Word) (s : List ℕ) (at : ℕ) → readOperation w s at ≡ mapped (make w) (readFields w) s at
-unfolding readOperation onSwitch mapped
+unfolding readOperation readOn andThen mapped
 reads-fields W.Other s at = refl
 reads-fields W.Barrier s at = refl
 reads-fields W.Message s at = refl
-reads-fields W.Packet s at = refl
-reads-fields W.Add s at = refl
-reads-fields W.AddChecked s at = refl
-reads-fields W.ModifyStrict s at = refl
-reads-fields W.Modify s at = refl
-reads-fields W.DeleteStrict s at = refl
-reads-fields W.Delete s at = refl
+reads-fields W.Packet s at = behind-switch (λ w p. OnTable w (Lookup p)) readPacket s at
+reads-fields W.Add s at = behind-switch (λ w e. OnTable w (Add e)) readEntry s at
+reads-fields W.AddChecked s at = behind-switch (λ w e. OnTable w (AddChecked e)) readEntry s at
+reads-fields W.ModifyStrict s at = behind-switch (λ w e. OnTable w (ModifyStrict e)) readEntry s at
+reads-fields W.Modify s at = behind-switch (λ w e. OnTable w (Modify e)) readEntry s at
+reads-fields W.DeleteStrict s at = behind-switch (λ w k. OnTable w (DeleteStrict k)) readKey s at
+reads-fields W.Delete s at = behind-switch (λ w m. OnTable w (Delete m)) readMatch s at
 
 -- ---- the operations of a word
 fields-reads : (w : Word) (x : Fields w) → FieldsWritten w x → (s : List ℕ) (at : ℕ) (rest : List ℕ) → Ends rest → drop at s ≡ printOperation (make w x) ++ rest

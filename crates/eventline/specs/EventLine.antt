@@ -17,7 +17,7 @@ use Rattle.fields.specs.Read.{readMatch, readPacket, readKey, readEntry}
 use Rattle.fields.specs.Written.{clearKey, clearEntry}
 use Rattle.events.specs.Events.{tokensOf}
 use Rattle.eventline.specs.declared.words.Word.the-variants as W
-use Rattle.eventline.specs.Types.{Refusal, TraceMalformed, EventMisnumbered, TraceAddressBit, TableOperation, Lookup, Add, AddChecked, ModifyStrict, Modify, DeleteStrict, Delete, Operation, Other, Barrier, Message, OnTable, Event, Word, OperationRead, EventRead}
+use Rattle.eventline.specs.Types.{Refusal, TraceMalformed, EventMisnumbered, TraceAddressBit, TableOperation, Lookup, Add, AddChecked, ModifyStrict, Modify, DeleteStrict, Delete, Operation, Other, Barrier, Message, OnTable, Entry, Event, Word, Write, OperationRead, EventRead}
 use Rattle.eventline.specs.Words.{wordText, readWord}
 use Rattle.eventline.specs.TokenLists.{printTokens, readTokens}
 
@@ -97,22 +97,38 @@ printLine n e = (evKey ++ printNumber n) ++ printEvent e
 unfoldable pub readSwitch : Reader ℕ
 readSwitch = keyed swKey (readNumber 15)
 
--- a switch, and then what makes an operation on its table
-unfoldable pub onSwitch : {A : Type 0} → (A → TableOperation) → Reader A → Reader Operation
-onSwitch make read = mapped (λ (w, a). OnTable w (make a)) (both readSwitch read)
+-- the operations of the four words with an entry
+abbrev pub writeOf : Write → Entry → TableOperation
+writeOf Write.Add e = Add e
+writeOf Write.AddChecked e = AddChecked e
+writeOf Write.ModifyStrict e = ModifyStrict e
+writeOf Write.Modify e = Modify e
 
--- the rest of the line of an operation, by its word
+-- the operation of a word on switch w, with its own fields
+unfoldable pub readOn : Word → ℕ → Reader Operation
+readOn W.Other w s at = some (Other, at)
+readOn W.Barrier w s at = some (Barrier w, at)
+readOn W.Message w s at = some (Message w, at)
+readOn W.Packet w s at = mapped (λ p. OnTable w (Lookup p)) readPacket s at
+readOn W.Add w s at = mapped (λ e. OnTable w (Add e)) readEntry s at
+readOn W.AddChecked w s at = mapped (λ e. OnTable w (AddChecked e)) readEntry s at
+readOn W.ModifyStrict w s at = mapped (λ e. OnTable w (ModifyStrict e)) readEntry s at
+readOn W.Modify w s at = mapped (λ e. OnTable w (Modify e)) readEntry s at
+readOn W.DeleteStrict w s at = mapped (λ k. OnTable w (DeleteStrict k)) readKey s at
+readOn W.Delete w s at = mapped (λ m. OnTable w (Delete m)) readMatch s at
+
+-- the rest of the line of an operation, by its word: for all but `oth` the switch, and then its own fields
 unfoldable pub readOperation : Word → Reader Operation
 readOperation W.Other s at = some (Other, at)
-readOperation W.Barrier s at = mapped Barrier readSwitch s at
-readOperation W.Message s at = mapped Message readSwitch s at
-readOperation W.Packet s at = onSwitch Lookup readPacket s at
-readOperation W.Add s at = onSwitch Add readEntry s at
-readOperation W.AddChecked s at = onSwitch AddChecked readEntry s at
-readOperation W.ModifyStrict s at = onSwitch ModifyStrict readEntry s at
-readOperation W.Modify s at = onSwitch Modify readEntry s at
-readOperation W.DeleteStrict s at = onSwitch DeleteStrict readKey s at
-readOperation W.Delete s at = onSwitch Delete readMatch s at
+readOperation W.Barrier s at = andThen readSwitch (readOn W.Barrier) s at
+readOperation W.Message s at = andThen readSwitch (readOn W.Message) s at
+readOperation W.Packet s at = andThen readSwitch (readOn W.Packet) s at
+readOperation W.Add s at = andThen readSwitch (readOn W.Add) s at
+readOperation W.AddChecked s at = andThen readSwitch (readOn W.AddChecked) s at
+readOperation W.ModifyStrict s at = andThen readSwitch (readOn W.ModifyStrict) s at
+readOperation W.Modify s at = andThen readSwitch (readOn W.Modify) s at
+readOperation W.DeleteStrict s at = andThen readSwitch (readOn W.DeleteStrict) s at
+readOperation W.Delete s at = andThen readSwitch (readOn W.Delete) s at
 
 -- what stands behind a word
 unfoldable pub readBehind : Word → Reader Event

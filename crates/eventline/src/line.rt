@@ -1,5 +1,5 @@
 // One line of a trace, taken apart or else refused by number.
-use crate::clear::clear_operation;
+use crate::checks::checked;
 use crate::operation::OperationRead;
 use crate::operation::operation_at;
 use crate::tokens::TokensRead;
@@ -23,53 +23,25 @@ pub enum EventRead {
 pub fn event_line(s: &[u8], line: usize) -> EventRead
     ensures { λ r. ⌜ asEvent r ≡ readEvent line (now (s .entry)) ⌝ }
 {
-    let Number::Read {
-        value: number,
-        next: a,
-    } = number_at(s, 0, b"ev=", 255)
-    else {
+    let Number::Read { value: ev, next } = number_at(s, 0, b"ev=", 255) else {
         return EventRead::Refused(Refusal::TraceMalformed(line));
     };
-    let WordRead::Read {
-        value: word,
-        next: b,
-    } = word_at(s, a)
-    else {
+    let WordRead::Read { value: word, next } = word_at(s, next) else {
         return EventRead::Refused(Refusal::TraceMalformed(line));
     };
-    let TokensRead::Read {
-        value: ins,
-        next: c,
-    } = tokens_at(s, b, b"in=")
-    else {
+    let TokensRead::Read { value: ins, next } = tokens_at(s, next, b"in=") else {
         return EventRead::Refused(Refusal::TraceMalformed(line));
     };
-    let TokensRead::Read {
-        value: outs,
-        next: d,
-    } = tokens_at(s, c, b" out=")
-    else {
+    let TokensRead::Read { value: outs, next } = tokens_at(s, next, b" out=") else {
         return EventRead::Refused(Refusal::TraceMalformed(line));
     };
-    let OperationRead::Read {
-        value: operation,
-        next: end,
-    } = operation_at(s, d, word)
-    else {
+    let OperationRead::Read { value: op, next } = operation_at(s, next, word) else {
         return EventRead::Refused(Refusal::TraceMalformed(line));
     };
-    if end != s.len() {
-        return EventRead::Refused(Refusal::TraceMalformed(line));
-    }
-    if number as usize != line {
-        return EventRead::Refused(Refusal::EventMisnumbered(line));
-    }
-    if clear_operation(operation) {
-        return EventRead::Read(Event {
-            ins,
-            outs,
-            operation,
-        });
-    }
-    EventRead::Refused(Refusal::TraceAddressBit(line))
+    let event = Event {
+        ins,
+        outs,
+        operation: op,
+    };
+    checked(line, ev as usize, event, next == s.len())
 }

@@ -10,11 +10,14 @@ use fields::entry_at;
 use fields::key_at;
 use fields::match_at;
 use fields::packet_at;
+use flow::Entry;
 use table::Operation;
 use table::TableOperation;
 ghost use mathlib.Core.Path.{_≡_};
-ghost use Rattle.eventline.specs.declared.words.Word.the-variants as W;
-ghost use Rattle.eventline.specs.EventLine.{readOperation, asOperation};
+ghost use Rattle.digits.specs.Reading.{mapped};
+ghost use Rattle.fields.specs.Read.{readPacket, readEntry, readKey, readMatch};
+ghost use Rattle.eventline.specs.Types.{Lookup, DeleteStrict, Delete, OnTable};
+ghost use Rattle.eventline.specs.EventLine.{writeOf, readOn, readOperation, asOperation};
 
 // Switches are 0 to 15.
 const LAST_SWITCH: u32 = 15;
@@ -25,207 +28,117 @@ pub enum OperationRead {
     Bad,
 }
 
-// `bar`: a switch.
-fn barrier_at(s: &[u8], at: usize) -> OperationRead
-    ensures { λ r. ⌜ asOperation r ≡ readOperation W.Barrier (now (s .entry)) at ⌝ }
+// The writes that carry an entry: `add`, `addc`, `mods`, `modn`.
+enum Write {
+    Add,
+    AddChecked,
+    ModifyStrict,
+    Modify,
+}
+
+fn write_of(write: Write, entry: Entry) -> TableOperation
+    ensures { λ r. ⌜ r ≡ writeOf write entry ⌝ }
 {
-    let Number::Read {
-        value: switch,
-        next,
-    } = number_at(s, at, b" sw=", LAST_SWITCH)
-    else {
+    match write {
+        Write::Add => TableOperation::Add(entry),
+        Write::AddChecked => TableOperation::AddChecked(entry),
+        Write::ModifyStrict => TableOperation::ModifyStrict(entry),
+        Write::Modify => TableOperation::Modify(entry),
+    }
+}
+
+// Such a write, with its entry.
+fn write_at(s: &[u8], at: usize, w: u8, write: Write) -> OperationRead
+    ensures { λ r. ⌜ asOperation r ≡ mapped (λ e. OnTable w (writeOf write e)) readEntry (now (s .entry)) at ⌝ }
+{
+    let EntryRead::Read { value: entry, next } = entry_at(s, at) else {
         return OperationRead::Bad;
     };
-    let w = switch as u8;
+    let operation = write_of(write, entry);
     OperationRead::Read {
-        value: Operation::Barrier(w),
+        value: Operation::Table(w, operation),
         next,
     }
 }
 
-// `msg`: a switch.
-fn message_at(s: &[u8], at: usize) -> OperationRead
-    ensures { λ r. ⌜ asOperation r ≡ readOperation W.Message (now (s .entry)) at ⌝ }
+// `pkt`: a packet.
+fn lookup_at(s: &[u8], at: usize, w: u8) -> OperationRead
+    ensures { λ r. ⌜ asOperation r ≡ mapped (λ p. OnTable w (Lookup p)) readPacket (now (s .entry)) at ⌝ }
 {
-    let Number::Read {
-        value: switch,
-        next,
-    } = number_at(s, at, b" sw=", LAST_SWITCH)
-    else {
+    let PacketRead::Read { value, next } = packet_at(s, at) else {
         return OperationRead::Bad;
     };
-    let w = switch as u8;
     OperationRead::Read {
-        value: Operation::Message(w),
+        value: Operation::Table(w, TableOperation::Packet(value)),
         next,
     }
 }
 
-// `pkt`: a switch and a packet.
-fn lookup_at(s: &[u8], at: usize) -> OperationRead
-    ensures { λ r. ⌜ asOperation r ≡ readOperation W.Packet (now (s .entry)) at ⌝ }
+// `dels`: a key.
+fn delete_strict_at(s: &[u8], at: usize, w: u8) -> OperationRead
+    ensures { λ r. ⌜ asOperation r ≡ mapped (λ k. OnTable w (DeleteStrict k)) readKey (now (s .entry)) at ⌝ }
 {
-    let Number::Read {
-        value: switch,
-        next: n,
-    } = number_at(s, at, b" sw=", LAST_SWITCH)
-    else {
-        return OperationRead::Bad;
-    };
-    let PacketRead::Read {
-        value: packet,
-        next,
-    } = packet_at(s, n)
-    else {
+    let KeyRead::Read { value, next } = key_at(s, at) else {
         return OperationRead::Bad;
     };
     OperationRead::Read {
-        value: Operation::Table(switch as u8, TableOperation::Packet(packet)),
+        value: Operation::Table(w, TableOperation::DeleteStrict(value)),
         next,
     }
 }
 
-// `add`: a switch and an entry.
-fn add_at(s: &[u8], at: usize) -> OperationRead
-    ensures { λ r. ⌜ asOperation r ≡ readOperation W.Add (now (s .entry)) at ⌝ }
+// `deln`: a match.
+fn delete_at(s: &[u8], at: usize, w: u8) -> OperationRead
+    ensures { λ r. ⌜ asOperation r ≡ mapped (λ m. OnTable w (Delete m)) readMatch (now (s .entry)) at ⌝ }
 {
-    let Number::Read {
-        value: switch,
-        next: n,
-    } = number_at(s, at, b" sw=", LAST_SWITCH)
-    else {
-        return OperationRead::Bad;
-    };
-    let EntryRead::Read { value: entry, next } = entry_at(s, n) else {
+    let MatchRead::Read { value, next } = match_at(s, at) else {
         return OperationRead::Bad;
     };
     OperationRead::Read {
-        value: Operation::Table(switch as u8, TableOperation::Add(entry)),
+        value: Operation::Table(w, TableOperation::Delete(value)),
         next,
     }
 }
 
-// `addc`: a switch and an entry.
-fn add_checked_at(s: &[u8], at: usize) -> OperationRead
-    ensures { λ r. ⌜ asOperation r ≡ readOperation W.AddChecked (now (s .entry)) at ⌝ }
-{
-    let Number::Read {
-        value: switch,
-        next: n,
-    } = number_at(s, at, b" sw=", LAST_SWITCH)
-    else {
-        return OperationRead::Bad;
-    };
-    let EntryRead::Read { value: entry, next } = entry_at(s, n) else {
-        return OperationRead::Bad;
-    };
-    OperationRead::Read {
-        value: Operation::Table(switch as u8, TableOperation::AddChecked(entry)),
-        next,
-    }
-}
-
-// `mods`: a switch and an entry.
-fn modify_strict_at(s: &[u8], at: usize) -> OperationRead
-    ensures { λ r. ⌜ asOperation r ≡ readOperation W.ModifyStrict (now (s .entry)) at ⌝ }
-{
-    let Number::Read {
-        value: switch,
-        next: n,
-    } = number_at(s, at, b" sw=", LAST_SWITCH)
-    else {
-        return OperationRead::Bad;
-    };
-    let EntryRead::Read { value: entry, next } = entry_at(s, n) else {
-        return OperationRead::Bad;
-    };
-    OperationRead::Read {
-        value: Operation::Table(switch as u8, TableOperation::ModifyStrict(entry)),
-        next,
-    }
-}
-
-// `modn`: a switch and an entry.
-fn modify_at(s: &[u8], at: usize) -> OperationRead
-    ensures { λ r. ⌜ asOperation r ≡ readOperation W.Modify (now (s .entry)) at ⌝ }
-{
-    let Number::Read {
-        value: switch,
-        next: n,
-    } = number_at(s, at, b" sw=", LAST_SWITCH)
-    else {
-        return OperationRead::Bad;
-    };
-    let EntryRead::Read { value: entry, next } = entry_at(s, n) else {
-        return OperationRead::Bad;
-    };
-    OperationRead::Read {
-        value: Operation::Table(switch as u8, TableOperation::Modify(entry)),
-        next,
-    }
-}
-
-// `dels`: a switch and a key.
-fn delete_strict_at(s: &[u8], at: usize) -> OperationRead
-    ensures { λ r. ⌜ asOperation r ≡ readOperation W.DeleteStrict (now (s .entry)) at ⌝ }
-{
-    let Number::Read {
-        value: switch,
-        next: n,
-    } = number_at(s, at, b" sw=", LAST_SWITCH)
-    else {
-        return OperationRead::Bad;
-    };
-    let KeyRead::Read { value: key, next } = key_at(s, n) else {
-        return OperationRead::Bad;
-    };
-    OperationRead::Read {
-        value: Operation::Table(switch as u8, TableOperation::DeleteStrict(key)),
-        next,
-    }
-}
-
-// `deln`: a switch and a match.
-fn delete_at(s: &[u8], at: usize) -> OperationRead
-    ensures { λ r. ⌜ asOperation r ≡ readOperation W.Delete (now (s .entry)) at ⌝ }
-{
-    let Number::Read {
-        value: switch,
-        next: n,
-    } = number_at(s, at, b" sw=", LAST_SWITCH)
-    else {
-        return OperationRead::Bad;
-    };
-    let MatchRead::Read {
-        value: pattern,
-        next,
-    } = match_at(s, n)
-    else {
-        return OperationRead::Bad;
-    };
-    OperationRead::Read {
-        value: Operation::Table(switch as u8, TableOperation::Delete(pattern)),
-        next,
-    }
-}
-
-// The operation of a word, with its own fields.
-pub fn operation_at(s: &[u8], at: usize, word: Word) -> OperationRead
-    ensures { λ r. ⌜ asOperation r ≡ readOperation word (now (s .entry)) at ⌝ }
+// The operation of a word on switch w, with its own fields.
+fn fields_at(s: &[u8], at: usize, word: Word, w: u8) -> OperationRead
+    ensures { λ r. ⌜ asOperation r ≡ readOn word w (now (s .entry)) at ⌝ }
 {
     match word {
         Word::Other => OperationRead::Read {
             value: Operation::Other,
             next: at,
         },
-        Word::Barrier => barrier_at(s, at),
-        Word::Message => message_at(s, at),
-        Word::Packet => lookup_at(s, at),
-        Word::Add => add_at(s, at),
-        Word::AddChecked => add_checked_at(s, at),
-        Word::ModifyStrict => modify_strict_at(s, at),
-        Word::Modify => modify_at(s, at),
-        Word::DeleteStrict => delete_strict_at(s, at),
-        Word::Delete => delete_at(s, at),
+        Word::Barrier => OperationRead::Read {
+            value: Operation::Barrier(w),
+            next: at,
+        },
+        Word::Message => OperationRead::Read {
+            value: Operation::Message(w),
+            next: at,
+        },
+        Word::Packet => lookup_at(s, at, w),
+        Word::Add => write_at(s, at, w, Write::Add),
+        Word::AddChecked => write_at(s, at, w, Write::AddChecked),
+        Word::ModifyStrict => write_at(s, at, w, Write::ModifyStrict),
+        Word::Modify => write_at(s, at, w, Write::Modify),
+        Word::DeleteStrict => delete_strict_at(s, at, w),
+        Word::Delete => delete_at(s, at, w),
     }
+}
+
+// The operation of a word: for all but `oth` the switch, and then its own fields.
+pub fn operation_at(s: &[u8], at: usize, word: Word) -> OperationRead
+    ensures { λ r. ⌜ asOperation r ≡ readOperation word (now (s .entry)) at ⌝ }
+{
+    if let Word::Other = word {
+        return OperationRead::Read {
+            value: Operation::Other,
+            next: at,
+        };
+    }
+    let Number::Read { value, next } = number_at(s, at, b" sw=", LAST_SWITCH) else {
+        return OperationRead::Bad;
+    };
+    fields_at(s, next, word, value as u8)
 }

@@ -1,4 +1,4 @@
-use mathlib.Core.Path.{sym, _∙_}
+use mathlib.Core.Path.{_∙_}
 use native.Mathlib.Omega.{arith}
 use borrow.Author.Needs.{needs}
 use Rattle.digits.specs.Number.{asNumber}
@@ -7,7 +7,7 @@ use Rattle.fields.proofs.Steps.{keyed-most}
 use Rattle.eventline.specs.Words.{asWord}
 use Rattle.eventline.specs.TokenLists.{asTokens}
 use Rattle.eventline.specs.EventLine.{evKey, asOperation}
-use Rattle.eventline.proofs.LineLaws.{bad-number, bad-word, bad-ins, bad-outs, bad-operation, bad-end, other-number, address-bit, event-read}
+use Rattle.eventline.proofs.LineLaws.{bad-number, bad-word, bad-ins, bad-outs, bad-operation, items-read}
 use Rattle.eventline.proofs.line.event_line.Statement.{statement}
 use Rattle.eventline.proofs.line.event_line.Tie as tie
 
@@ -17,20 +17,20 @@ returns c = bad-number _ _ (seen asNumber (c .before .before .number-at .ensures
 returns-2 : tie.Need-returns-2
 returns-2 c =
     let w = c .before .before in
-    bad-word _ _ (seen asNumber (w .before .before .before .before .number-at .ensures) (w .before .before .number .given .1)) (seen asWord (w .word-at .ensures) (c .enum-told2 .given .1))
+    bad-word _ _ (seen asNumber (w .before .before .before .before .number-at .ensures) (w .before .before .ev .given .1)) (seen asWord (w .word-at .ensures) (c .enum-told2 .given .1))
 
 returns-3 : tie.Need-returns-3
 returns-3 c =
     let i = c .before .before in
     let w = i .before .before .before .before .before in
-    bad-ins _ _ (seen asNumber (w .before .before .before .before .number-at .ensures) (w .before .before .number .given .1)) (seen asWord (i .before .before .before .before .before .word-at .ensures) (i .before .before .before .word .given .1)) (seen asTokens (i .tokens-at .ensures) (c .enum-told3 .given .1))
+    bad-ins _ _ (seen asNumber (w .before .before .before .before .number-at .ensures) (w .before .before .ev .given .1)) (seen asWord (i .before .before .before .before .before .word-at .ensures) (i .before .before .before .word .given .1)) (seen asTokens (i .tokens-at .ensures) (c .enum-told3 .given .1))
 
 returns-4 : tie.Need-returns-4
 returns-4 c =
     let o = c .before .before in
     let i = o .before .before .before .before .before in
     let w = i .before .before .before .before .before in
-    bad-outs _ _ (seen asNumber (w .before .before .before .before .number-at .ensures) (w .before .before .number .given .1)) (seen asWord (i .before .before .before .before .before .word-at .ensures) (i .before .before .before .word .given .1)) (seen asTokens (o .before .before .before .before .before .tokens-at .ensures) (o .before .before .before .ins .given .1)) (seen asTokens (o .tokens-at2 .ensures) (c .enum-told4 .given .1))
+    bad-outs _ _ (seen asNumber (w .before .before .before .before .number-at .ensures) (w .before .before .ev .given .1)) (seen asWord (i .before .before .before .before .before .word-at .ensures) (i .before .before .before .word .given .1)) (seen asTokens (o .before .before .before .before .before .tokens-at .ensures) (o .before .before .before .ins .given .1)) (seen asTokens (o .tokens-at2 .ensures) (c .enum-told4 .given .1))
 
 returns-5 : tie.Need-returns-5
 returns-5 c =
@@ -38,7 +38,15 @@ returns-5 c =
     let o = p .before .before .before .before in
     let i = o .before .before .before .before .before in
     let w = i .before .before .before .before .before in
-    bad-operation _ _ (seen asNumber (w .before .before .before .before .number-at .ensures) (w .before .before .number .given .1)) (seen asWord (i .before .before .before .before .before .word-at .ensures) (i .before .before .before .word .given .1)) (seen asTokens (o .before .before .before .before .before .tokens-at .ensures) (o .before .before .before .ins .given .1)) (seen asTokens (p .before .before .before .before .tokens-at2 .ensures) (p .before .before .outs .given .1)) (seen asOperation (p .operation-at .ensures) (c .enum-told5 .given .1))
+    bad-operation _ _ (seen asNumber (w .before .before .before .before .number-at .ensures) (w .before .before .ev .given .1)) (seen asWord (i .before .before .before .before .before .word-at .ensures) (i .before .before .before .word .given .1)) (seen asTokens (o .before .before .before .before .before .tokens-at .ensures) (o .before .before .before .ins .given .1)) (seen asTokens (p .before .before .before .before .tokens-at2 .ensures) (p .before .before .outs .given .1)) (seen asOperation (p .operation-at .ensures) (c .enum-told5 .given .1))
+
+cast-checked : tie.Need-cast-checked
+cast-checked c =
+    let p = c .before .before .before in
+    let o = p .before .before .before .before in
+    let i = o .before .before .before .before .before in
+    let w = i .before .before .before .before .before in
+    omega (arith, keyed-most _ _ _ _ _ (omega arith) evKey (seen asNumber (w .before .before .before .before .number-at .ensures) (w .before .before .ev .given .1)))
 
 returns-6 : tie.Need-returns-6
 returns-6 c =
@@ -47,42 +55,8 @@ returns-6 c =
     let o = p .before .before .before .before in
     let i = o .before .before .before .before .before in
     let w = i .before .before .before .before .before in
-    bad-end _ _ (seen asNumber (w .before .before .before .before .number-at .ensures) (w .before .before .number .given .1)) (seen asWord (i .before .before .before .before .before .word-at .ensures) (i .before .before .before .word .given .1)) (seen asTokens (o .before .before .before .before .before .tokens-at .ensures) (o .before .before .before .ins .given .1)) (seen asTokens (p .before .before .before .before .tokens-at2 .ensures) (p .before .before .outs .given .1)) (seen asOperation (k .before .before .before .operation-at .ensures) (k .before .operation .given .1)) (c .if1 .taken)
-
-cast-if2 : tie.Need-cast-if2
-cast-if2 c =
-    let p = c .before .before .before .before in
-    let o = p .before .before .before .before in
-    let i = o .before .before .before .before .before in
-    let w = i .before .before .before .before .before in
-    omega (arith, keyed-most _ _ _ _ _ (omega arith) evKey (seen asNumber (w .before .before .before .before .number-at .ensures) (w .before .before .number .given .1)))
-
-returns-7 : tie.Need-returns-7
-returns-7 c =
-    let k = c .before .before in
-    let p = k .before .before .before in
-    let o = p .before .before .before .before in
-    let i = o .before .before .before .before .before in
-    let w = i .before .before .before .before .before in
-    other-number _ _ (seen asNumber (w .before .before .before .before .number-at .ensures) (w .before .before .number .given .1)) (seen asWord (i .before .before .before .before .before .word-at .ensures) (i .before .before .before .word .given .1)) (seen asTokens (o .before .before .before .before .before .tokens-at .ensures) (o .before .before .before .ins .given .1)) (seen asTokens (p .before .before .before .before .tokens-at2 .ensures) (p .before .before .outs .given .1)) (seen asOperation (k .before .before .before .operation-at .ensures) (k .before .operation .given .1)) (c .before .if1 .left) (c .if2 .taken)
-
-returns-8 : tie.Need-returns-8
-returns-8 c =
-    let k = c .before .before .before .before in
-    let p = k .before .before .before in
-    let o = p .before .before .before .before in
-    let i = o .before .before .before .before .before in
-    let w = i .before .before .before .before .before in
-    event-read _ _ (seen asNumber (w .before .before .before .before .number-at .ensures) (w .before .before .number .given .1)) (seen asWord (i .before .before .before .before .before .word-at .ensures) (i .before .before .before .word .given .1)) (seen asTokens (o .before .before .before .before .before .tokens-at .ensures) (o .before .before .before .ins .given .1)) (seen asTokens (p .before .before .before .before .tokens-at2 .ensures) (p .before .before .outs .given .1)) (seen asOperation (k .before .before .before .operation-at .ensures) (k .before .operation .given .1)) (c .before .before .before .if1 .left) (c .before .before .if2 .left) (sym (c .before .clear-operation .ensures) ∙ c .if3 .taken)
-
-returns-9 : tie.Need-returns-9
-returns-9 c =
-    let k = c .before .before .before .before in
-    let p = k .before .before .before in
-    let o = p .before .before .before .before in
-    let i = o .before .before .before .before .before in
-    let w = i .before .before .before .before .before in
-    address-bit _ _ (seen asNumber (w .before .before .before .before .number-at .ensures) (w .before .before .number .given .1)) (seen asWord (i .before .before .before .before .before .word-at .ensures) (i .before .before .before .word .given .1)) (seen asTokens (o .before .before .before .before .before .tokens-at .ensures) (o .before .before .before .ins .given .1)) (seen asTokens (p .before .before .before .before .tokens-at2 .ensures) (p .before .before .outs .given .1)) (seen asOperation (k .before .before .before .operation-at .ensures) (k .before .operation .given .1)) (c .before .before .before .if1 .left) (c .before .before .if2 .left) (sym (c .before .clear-operation .ensures) ∙ c .if3 .left)
+    c .checked .ensures
+    ∙ items-read _ _ (seen asNumber (w .before .before .before .before .number-at .ensures) (w .before .before .ev .given .1)) (seen asWord (i .before .before .before .before .before .word-at .ensures) (i .before .before .before .word .given .1)) (seen asTokens (o .before .before .before .before .before .tokens-at .ensures) (o .before .before .before .ins .given .1)) (seen asTokens (p .before .before .before .before .tokens-at2 .ensures) (p .before .before .outs .given .1)) (seen asOperation (p .operation-at .ensures) (k .before .op .given .1))
 
 pub event-line-spec : {M : Type 1} → statement M
 event-line-spec =
@@ -93,8 +67,5 @@ event-line-spec =
     returns-3 (λ c. search needs) (λ c κs. search needs) (λ c. search needs) (λ c. search needs)
     returns-4 (λ c κs. search needs) (λ c. search needs) (λ c. search needs)
     returns-5
-    returns-6
-    cast-if2
-    returns-7 (λ c κs. search needs)
-    returns-8
-    returns-9)
+    cast-checked (λ c κs. search needs)
+    returns-6)

@@ -1,43 +1,43 @@
-use mathlib.Core.Path.{refl}
+use mathlib.Core.List.{[], _∷_}
+use mathlib.Core.Path.{_≡_}
+use types.Run.{miss}
+use native.Mathlib.Omega.{arith}
 use borrow.Author.Needs.{needs}
-use Rattle.eventline.specs.EventLine.{readOperation}
-use Rattle.eventline.proofs.LineLaws.{by-word}
+use Rattle.digits.specs.Number.{asNumber}
+use Rattle.digits.proofs.Readers.{seen}
+use Rattle.fields.proofs.Steps.{keyed-most}
+use Rattle.eventline.specs.declared.words.Word.the-variants as W
+use Rattle.eventline.specs.EventLine.{swKey}
+use Rattle.eventline.proofs.LineLaws.{no-switch, bad-switch, on-switch}
 use Rattle.eventline.proofs.operation.operation_at.Statement.{statement}
 use Rattle.eventline.proofs.operation.operation_at.Tie as tie
 
+-- behind the first test the word is another than `oth`
+not-other : (c : tie.At-match-keys2) → c .before .before .args .word ≡ W.Other → ⊥
+not-other c e = miss (1 ∷ 2 ∷ 3 ∷ 4 ∷ 5 ∷ 6 ∷ 7 ∷ 8 ∷ 9 ∷ []) 0 tt (rw e at (c .match .keys2))
+
 returns : tie.Need-returns
-unfolding readOperation
-returns c = by-word _ _ (c .enum-told .given .1) refl
+returns c = no-switch _ _ (c .enum-told .given .1)
 
 returns-2 : tie.Need-returns-2
-returns-2 c = by-word _ _ (c .before .enum-told2 .given .1) (c .barrier-at .ensures)
+returns-2 c =
+    let n = c .before .before in
+    bad-switch _ _ _ (not-other (n .before .before)) (seen asNumber (n .number-at .ensures) (c .enum-told2 .given .1))
+
+cast-fields-at : tie.Need-cast-fields-at
+cast-fields-at c =
+    record { fits = omega (arith, keyed-most _ _ _ _ _ (omega arith) swKey (seen asNumber (c .before .before .before .number-at .ensures) (c .before .value .given .1))) }
 
 returns-3 : tie.Need-returns-3
-returns-3 c = by-word _ _ (c .before .enum-told3 .given .1) (c .message-at .ensures)
-
-returns-4 : tie.Need-returns-4
-returns-4 c = by-word _ _ (c .before .enum-told4 .given .1) (c .lookup-at .ensures)
-
-returns-5 : tie.Need-returns-5
-returns-5 c = by-word _ _ (c .before .enum-told5 .given .1) (c .add-at .ensures)
-
-returns-6 : tie.Need-returns-6
-returns-6 c = by-word _ _ (c .before .enum-told6 .given .1) (c .add-checked-at .ensures)
-
-returns-7 : tie.Need-returns-7
-returns-7 c = by-word _ _ (c .before .enum-told7 .given .1) (c .modify-strict-at .ensures)
-
-returns-8 : tie.Need-returns-8
-returns-8 c = by-word _ _ (c .before .enum-told8 .given .1) (c .modify-at .ensures)
-
-returns-9 : tie.Need-returns-9
-returns-9 c = by-word _ _ (c .before .enum-told9 .given .1) (c .delete-strict-at .ensures)
-
-returns-10 : tie.Need-returns-10
-returns-10 c = by-word _ _ (c .before .enum-told10 .given .1) (c .delete-at .ensures)
+returns-3 c =
+    let n = c .before .before .before .before in
+    on-switch _ _ _ (not-other (n .before .before)) (seen asNumber (n .number-at .ensures) (c .before .before .value .given .1)) (c .fields-at .ensures)
 
 pub operation-at-spec : {M : Type 1} → statement M
 operation-at-spec =
     tie.close
-    (tie.spec (λ c. search needs) (λ c. search needs) (λ c κs. search needs) (λ c. search needs) (λ c κs. search needs) (λ c. search needs) (λ c κs. search needs) (λ c. search needs) (λ c κs. search needs) (λ c. search needs) (λ c κs. search needs) (λ c. search needs) (λ c κs. search needs) (λ c. search needs) (λ c κs. search needs) (λ c. search needs) (λ c κs. search needs) (λ c. search needs) (λ c κs. search needs)
-    returns returns-2 returns-3 returns-4 returns-5 returns-6 returns-7 returns-8 returns-9 returns-10)
+    (tie.spec (λ c. search needs)
+    returns (λ c. search needs) (λ c κs. search needs) (λ c. search needs) (λ c. search needs)
+    returns-2
+    cast-fields-at (λ c κs. search needs)
+    returns-3)

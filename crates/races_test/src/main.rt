@@ -2,8 +2,8 @@
 use libc::STDOUT_FILENO;
 
 // The files 000 and on: the worked lines and no events; each refusal; barriers, messages and chains through tokens; pairs that commute or
-// do not; 256 events; then traces drawn at random.
-const CASES: u8 = 47;
+// do not; 256 events; traces drawn at random; from 047 on barriers and chains again, every two operations, many switches and events.
+const CASES: u8 = 69;
 
 fn print_report(trace: &[u8]) {
     let mut out = [0u8; 425000];
@@ -12,32 +12,37 @@ fn print_report(trace: &[u8]) {
 }
 
 fn read_file(path: &[u8]) {
-    let fd = os::open_read(path);
-    if fd < 0 {
-        os::fail(path);
-        return;
-    }
     let mut buf = io::large_buffer();
-    let input = input::read_all(fd, &mut buf);
+    let input = input::read_file(path, &mut buf);
     if input.ok {
         let n = input.len;
         print_report(&buf[..n]);
-    } else {
-        os::fail(path);
     }
-    libc::close(fd);
+}
+
+fn run(path: &[u8]) {
+    io::write_all(STDOUT_FILENO, b"trace ");
+    io::write_all(STDOUT_FILENO, path);
+    io::write_all(STDOUT_FILENO, b"\n");
+    read_file(path);
 }
 
 // The file that a number names by its three digits.
 fn numbered(i: u8) {
     let name = [b'0' + i / 100 % 10, b'0' + i / 10 % 10, b'0' + i % 10];
-    io::write_all(STDOUT_FILENO, b"trace ");
-    io::write_all(STDOUT_FILENO, &name);
-    io::write_all(STDOUT_FILENO, b"\n");
-    read_file(&name);
+    run(&name);
 }
 
+// The rehearsals of examples/, each with its repaired trace; then the numbered files.
 fn main() {
+    run(b"packet_early");
+    run(b"packet_early_repaired");
+    run(b"one_key");
+    run(b"one_key_repaired");
+    run(b"overlap");
+    run(b"overlap_repaired");
+    run(b"aisle");
+    run(b"aisle_repaired");
     for i in 0..CASES {
         numbered(i);
     }

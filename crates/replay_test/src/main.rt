@@ -6,23 +6,6 @@ use libc::STDOUT_FILENO;
 use replay::ReplayAnswer;
 ghost use Rattle.io.specs.Counts.{Counts};
 
-// Reads a file; what could not be read is said on standard error.
-fn read_file(path: &[u8], buf: &mut [u8]) -> Input
-    ensures { λ r. ⌜ Counts (r .len) (now (buf .exit)) ⌝ }
-{
-    let fd = os::open_read(path);
-    if fd < 0 {
-        os::fail(path);
-        return Input { ok: false, len: 0 };
-    }
-    let input = input::read_all(fd, buf);
-    if !input.ok {
-        os::fail(path);
-    }
-    libc::close(fd);
-    input
-}
-
 // An answer: both texts, or the refusal.
 fn print_answer<'a>(
     trace: &'a [u8],
@@ -120,7 +103,7 @@ fn replay_lines<'a>(trace: &'a [u8], tables: &'a [u8], orders: &[u8]) {
 
 fn replay_texts<'a>(trace: &'a [u8], tables: &'a [u8], orders_name: &[u8]) {
     let mut orders = io::buffer();
-    let read = read_file(orders_name, &mut orders);
+    let read = input::read_file(orders_name, &mut orders);
     if read.ok {
         let n = read.len;
         replay_recorded(trace, tables);
@@ -134,8 +117,8 @@ fn replay_files(name: &[u8], trace_name: &[u8], tables_name: &[u8], orders_name:
     report::end_line();
     let mut trace = io::large_buffer();
     let mut tables = io::large_buffer();
-    let first = read_file(trace_name, &mut trace);
-    let second = read_file(tables_name, &mut tables);
+    let first = input::read_file(trace_name, &mut trace);
+    let second = input::read_file(tables_name, &mut tables);
     if first.ok & second.ok {
         let n = first.len;
         let m = second.len;

@@ -6,23 +6,6 @@ use libc::STDOUT_FILENO;
 use replay::ReplayAnswer;
 ghost use Rattle.io.specs.Counts.{Counts};
 
-// Reads a file; what could not be read is said on standard error.
-fn read_file(path: &[u8], buf: &mut [u8]) -> Input
-    ensures { λ r. ⌜ Counts (r .len) (now (buf .exit)) ⌝ }
-{
-    let fd = os::open_read(path);
-    if fd < 0 {
-        os::fail(path);
-        return Input { ok: false, len: 0 };
-    }
-    let input = input::read_all(fd, buf);
-    if !input.ok {
-        os::fail(path);
-    }
-    libc::close(fd);
-    input
-}
-
 // Reads the file that an argument names.
 fn read_arg(i: usize, buf: &mut [u8]) -> Input
     ensures { λ r. ⌜ Counts (r .len) (now (buf .exit)) ⌝ }
@@ -33,7 +16,7 @@ fn read_arg(i: usize, buf: &mut [u8]) -> Input
         os::fail(b"argument");
         return Input { ok: false, len: 0 };
     }
-    read_file(&name[..n], buf)
+    input::read_file(&name[..n], buf)
 }
 
 // Both texts, or the refusal. The buffers hold the longest texts that there are: 512 lines of 105 bytes, and 256 of 29.

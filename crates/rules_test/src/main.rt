@@ -46,21 +46,13 @@ fn normalise_twice(tables: &[u8], out: &mut [u8]) {
 }
 
 fn read_file(path: &[u8]) {
-    let fd = os::open_read(path);
-    if fd < 0 {
-        os::fail(path);
-        return;
-    }
     let mut buf = io::large_buffer();
-    let input = input::read_all(fd, &mut buf);
+    let input = input::read_file(path, &mut buf);
     if input.ok {
         let n = input.len;
         let mut out = io::large_buffer();
         normalise_twice(&buf[..n], &mut out);
-    } else {
-        os::fail(path);
     }
-    libc::close(fd);
 }
 
 fn run(path: &[u8]) {

@@ -27,20 +27,12 @@ fn read_text(text: &[u8]) {
 }
 
 fn read_file(path: &[u8]) {
-    let fd = os::open_read(path);
-    if fd < 0 {
-        os::fail(path);
-        return;
-    }
     let mut buf = io::large_buffer();
-    let input = input::read_all(fd, &mut buf);
+    let input = input::read_file(path, &mut buf);
     if input.ok {
         let n = input.len;
         read_text(&buf[..n]);
-    } else {
-        os::fail(path);
     }
-    libc::close(fd);
 }
 
 // The file that a number names by its three digits.

@@ -11,7 +11,7 @@ fn answer(tables: &[u8]) {
             io::write_all(STDOUT_FILENO, lines::front(&out, n));
         }
         NormalAnswer::Refused(e) => {
-            report::refused(b"", tables, e);
+            output::refused(b"", tables, e);
         }
     }
 }

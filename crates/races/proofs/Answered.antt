@@ -1,27 +1,26 @@
 -- The list call with a buffer that no list is too long for: the counts and the list of an accepted trace, or the trace's refusal; and
 -- what is printed of each. Assumes nothing.
-use Prim.Native.Nat.{ℕ, _+_, _*_, _<_, _≤_, _^_}
+use Prim.Native.Nat.{ℕ, _+_, _*_, _≤_}
 use native.Mathlib.Omega.{arith}
 use mathlib.Core.Path.{_≡_, refl, sym, ap, ap₂, subst, _∙_}
 use mathlib.Core.Bool.{false}
-use mathlib.Core.List.{List, _++_}
+use mathlib.Core.List.{List, [], _++_}
 use mathlib.Core.Logic.{_⊎_, inl, inr}
 use lib.Dec.{ltb}
 use lib.ListN.{length, take, drop, length-append}
 use lib.Seq.{take-at}
 use borrow.Author.Tests.{le-ltb}
 use Rattle.digits.specs.Print.{Put}
+use Rattle.diagnostics.specs.Report.{refusedText}
 use Rattle.pairs.specs.List.{listed, listOf, pairBytes, needed, countsOf}
 use Rattle.pairs.specs.Counting.{Small}
 use Rattle.pairs.proofs.PairLaws.{bytes-length}
-use Rattle.refusals.specs.Refusals.{placeOf}
 use Rattle.trace.specs.TraceText.{readTrace}
 use Rattle.trace.proofs.Accepted.{accepted-iff}
 use Rattle.races.specs.Types.{Event, Counts, Refusal, ListAnswer, Counted, Refused}
 use Rattle.races.specs.Races.{answerFor, bufferAfter, answerTo, bufferOf, listAnswer, listBuffer}
-use Rattle.races.specs.Report.{raceLines, countsLine, refusedText, reportText}
+use Rattle.races.specs.Report.{raceLines, countsLine, reportText}
 use Rattle.races.proofs.ListLaws.{listed-is}
-use Rattle.races.proofs.Refused.{refused-place}
 use Rattle.races.proofs.Sizes.{count-most, counts-small, report-length}
 use Rattle.races.proofs.Theorems.{report-lists, report-refuses}
 
@@ -98,8 +97,5 @@ module _ (s : List ℕ) {n : ℕ} {old out : List ℕ} where
       bounded (subst (λ (t : List ℕ). Put t 0 old n out)
       (ap₂ (λ (b : List ℕ) (d : Counts). raceLines b ++ countsLine d) (l .bytes) (l .counts) ∙ sym (report-lists s (l .events) (l .read))) p)
 
-  pub refused-put : (r : Refusal) → readTrace s ≡ inl r → Put (refusedText s r) 0 old n out → Put (reportText s) 0 old n out × (n ≤ 425000)
+  pub refused-put : (r : Refusal) → readTrace s ≡ inl r → Put (refusedText s [] r) 0 old n out → Put (reportText s) 0 old n out × (n ≤ 425000)
   refused-put r h p = bounded (subst (λ (t : List ℕ). Put t 0 old n out) (sym (report-refuses s r h)) p)
-
-pub place-small : (s : List ℕ) (r : Refusal) → readTrace s ≡ inl r → placeOf r < 2 ^ 32
-place-small s r h = omega (arith, refused-place s r h)

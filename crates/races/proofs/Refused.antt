@@ -16,7 +16,7 @@ use Rattle.trace.specs.Search.{lowest}
 use Rattle.trace.specs.TraceText.{twice, tooEarly, refusedAt, checkTokens, onEvent, onEvents, readLines, readTrace}
 use Rattle.trace.proofs.Accepted.{token-twice-line, token-early-line}
 use Rattle.races.specs.Types.{Event, Refusal, TokenTwice, TokenTooEarly, Source, Neither, InTrace, InTables}
-use Rattle.races.specs.Report.{lineText}
+use Rattle.diagnostics.specs.Report.{lineText}
 
 same-refusal : {A : Type 0} {q r : Refusal} → _≡_ {A = Refusal ⊎ A} (inl q) (inl r) → q ≡ r
 same-refusal e = cc

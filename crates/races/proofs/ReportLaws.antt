@@ -7,9 +7,7 @@ use lib.ListN.{length, drop, getD, length-drop}
 use lib.Seq.{drop-cons}
 use Rattle.digits.specs.Print.{Put}
 use Rattle.digits.proofs.Writing.{put-then}
-use Rattle.refusals.specs.Refusals.{numberOf, placeOf, sourceOf, lineOf}
-use Rattle.races.specs.Types.{Refusal, Source}
-use Rattle.races.specs.Report.{item, raceLine, raceLines, refusalLine, lineText, refusedText}
+use Rattle.races.specs.Report.{raceLine, raceLines}
 
 -- the pair at place i of a list, and the rest
 next-pair : (list : List ℕ) (i : ℕ) → i + 1 < length list → raceLines (drop i list) ≡ raceLine (getD list i 0) (getD list (i + 1) 0) ++ raceLines (drop (i + 2) list)
@@ -38,19 +36,3 @@ module _ (list old : List ℕ) (i : ℕ) {w : List ℕ} {at : ℕ} {out : List �
   races-done l =
       let e : w ≡ raceLines list = sym (append-nil w) ∙ ap (λ (r : List ℕ). w ++ r) (sym (no-pair (drop i list) (omega (arith, length-drop i list)))) ∙ whole in
       subst (λ (t : List ℕ). Put t 0 old at out) e p
-
--- a refusal's line, by the numbers that the code has
-pub refusal-put : (r : Refusal) (n p : ℕ) {m : ℕ} {old out : List ℕ} → n ≡ numberOf r → p ≡ placeOf r
-    → Put (item (114 ∷ 101 ∷ 102 ∷ 117 ∷ 115 ∷ 101 ∷ 100 ∷ 61 ∷ []) n ++ item (32 ∷ 112 ∷ 108 ∷ 97 ∷ 99 ∷ 101 ∷ 61 ∷ []) p ++ (10 ∷ [])) 0 old m out
-    → Put (refusalLine r) 0 old m out
-unfolding refusalLine
-refusal-put r n p {m} {old} {out} e f h =
-    subst (λ (t : List ℕ). Put t 0 old m out)
-    (ap₂ (λ (a b : ℕ). item (114 ∷ 101 ∷ 102 ∷ 117 ∷ 115 ∷ 101 ∷ 100 ∷ 61 ∷ []) a ++ item (32 ∷ 112 ∷ 108 ∷ 97 ∷ 99 ∷ 101 ∷ 61 ∷ []) b ++ (10 ∷ [])) e f) h
-
--- an arm of the match on the text that a refusal's line stands in
-pub refused-arm : (trace : List ℕ) (r : Refusal) (line : List ℕ) {s form : Source} {n : ℕ} {old out : List ℕ} → s ≡ sourceOf r → s ≡ form → line ≡ lineOf trace [] r
-    → Put (refusalLine r ++ lineText form line) 0 old n out → Put (refusedText trace r) 0 old n out
-unfolding refusedText
-refused-arm trace r line {n = n} {old = old} {out = out} e f g h =
-    subst (λ (t : List ℕ). Put t 0 old n out) (ap₂ (λ (a : Source) (b : List ℕ). refusalLine r ++ lineText a b) (sym f ∙ e) g) h

@@ -16,11 +16,11 @@ use Rattle.pairs.specs.List.{Kind, listed, test, Pair, gather, cell, pairsWhere
 use Rattle.pairs.specs.Counting.{size, countOf, Small}
 use Rattle.pairs.proofs.PairLaws.{size-only, small-of}
 use Rattle.pairs.proofs.Members.{pairs-in}
-use Rattle.refusals.specs.Refusals.{numberOf, placeOf}
 use Rattle.trace.specs.TraceText.{readTrace}
 use Rattle.trace.proofs.Accepted.{accepted-iff}
 use Rattle.races.specs.Types.{Event, Counts, Refusal}
-use Rattle.races.specs.Report.{item, raceLine, raceLines, countsLine, refusalLine, refusedText, listText, textOf, reportText}
+use Rattle.diagnostics.proofs.Laws.{item-length, refusal-length, refused-length}
+use Rattle.races.specs.Report.{raceLine, raceLines, countsLine, listText, textOf, reportText}
 use Rattle.races.proofs.Refused.{refused-text}
 
 -- ---- pairs
@@ -88,10 +88,6 @@ three-digits n l =
       | no s ↦ rw (print-big n (omega arith) (omega arith), length-append) (omega (arith, two-digits (n / 10) (omega arith)))
     ]
 
-item-length : (key : List ℕ) (n : ℕ) → length (item key n) ≡ length key + length (printNumber n)
-unfolding item
-item-length key n = length-append key (printNumber n)
-
 race-length : (i j : ℕ) → i < 256 → j < 256 → length (raceLine i j) ≤ 13
 unfolding raceLine
 race-length i j a b = simp (length-append, item-length) (omega (arith, three-digits i (omega arith), three-digits j (omega arith)))
@@ -124,15 +120,11 @@ list-length es l =
       counts-length (countsOf es),
     )
 
-refusal-length : (r : Refusal) → length (refusalLine r) ≤ 36
-unfolding refusalLine
-refusal-length r = simp (length-append, item-length) (omega (arith, print-length (numberOf r), print-length (placeOf r)))
-
 -- what is printed fits 425,000 bytes
 pub report-length : (s : List ℕ) → length (reportText s) ≤ 425000
-unfolding reportText refusedText
+unfolding reportText
 report-length s = go (readTrace s) refl
   where
     go : (x : Refusal ⊎ List Event) → readTrace s ≡ x → length (textOf s x) ≤ 425000
-    go (inl r) h = simp length-append (omega (arith, refusal-length r, refused-text s r h))
+    go (inl r) h = omega (arith, refused-length s [] r, refusal-length r, refused-text s r h)
     go (inr es) h = list-length es (accepted-iff s es .0 h .few)

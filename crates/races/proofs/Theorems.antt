@@ -15,7 +15,11 @@ use Rattle.pairs.specs.List.{listOf, pairBytes, countsOf}
 use Rattle.pairs.specs.Racing.{Racing, EventsInRange}
 use Rattle.pairs.proofs.Theorems.{listed-iff}
 use Rattle.races.specs.Types.{Event, Refusal}
-use Rattle.races.specs.Report.{raceLines, countsLine, refusedText, listText, textOf, reportText}
+use Rattle.races.specs.Report.{raceLines, countsLine, listText, textOf, reportText}
+use Rattle.diagnostics.specs.Report.{shown, refusedText}
+use Rattle.diagnostics.proofs.Laws.{shown-small}
+use Rattle.refusals.specs.Refusals.{placeOf}
+use Rattle.races.proofs.Refused.{refused-place}
 
 event-in-range : (es : List Event) → AllWritten es → (k : ℕ) → k < length es → EventInRange (eventAt es k)
 event-in-range [] w k l = absurd (omega arith)
@@ -35,6 +39,10 @@ pub report-lists : (s : List ℕ) (es : List Event) → readTrace s ≡ inr es �
 unfolding reportText listText
 report-lists s es h = ap (textOf s) h
 
-pub report-refuses : (s : List ℕ) (r : Refusal) → readTrace s ≡ inl r → reportText s ≡ refusedText s r
+pub report-refuses : (s : List ℕ) (r : Refusal) → readTrace s ≡ inl r → reportText s ≡ refusedText s [] r
 unfolding reportText
 report-refuses s r h = ap (textOf s) h
+
+-- the place of a refused trace is printed as it is
+pub report-place : (s : List ℕ) (r : Refusal) → readTrace s ≡ inl r → placeOf r ≡ shown (placeOf r)
+report-place s r h = shown-small (placeOf r) (omega (arith, refused-place s r h))

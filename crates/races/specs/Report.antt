@@ -2,15 +2,10 @@
 use mathlib.Core.List.{List, [], _∷_, _++_}
 use mathlib.Core.Logic.{_⊎_, inl, inr}
 use Prim.Native.Nat.{ℕ}
-use Rattle.digits.specs.Print.{printNumber}
-use Rattle.refusals.specs.Refusals.{numberOf, placeOf, sourceOf, lineOf}
+use Rattle.diagnostics.specs.Report.{item, refusedText}
 use Rattle.pairs.specs.List.{listOf, pairBytes, countsOf}
 use Rattle.trace.specs.TraceText.{readTrace}
-use Rattle.races.specs.Types.{Event, Counts, Refusal, Source, Neither, InTrace, InTables}
-
--- a key and its number
-unfoldable pub item : List ℕ → ℕ → List ℕ
-item key n = key ++ printNumber n
+use Rattle.races.specs.Types.{Event, Counts, Refusal}
 
 -- `race=3,4`
 unfoldable pub raceLine : ℕ → ℕ → List ℕ
@@ -31,29 +26,12 @@ countsLine c =
     ++ item (32 ∷ 108 ∷ 105 ∷ 115 ∷ 116 ∷ 101 ∷ 100 ∷ 61 ∷ []) (c .listed)
     ++ (10 ∷ [])
 
--- `refused=4 place=2`
-unfoldable pub refusalLine : Refusal → List ℕ
-refusalLine r =
-    item (114 ∷ 101 ∷ 102 ∷ 117 ∷ 115 ∷ 101 ∷ 100 ∷ 61 ∷ []) (numberOf r)
-    ++ item (32 ∷ 112 ∷ 108 ∷ 97 ∷ 99 ∷ 101 ∷ 61 ∷ []) (placeOf r)
-    ++ (10 ∷ [])
-
--- the refused line, where there is one
-abbrev pub lineText : Source → List ℕ → List ℕ
-lineText Neither line = []
-lineText InTrace line = line ++ (10 ∷ [])
-lineText InTables line = line ++ (10 ∷ [])
-
--- number and place, then the refused line, except for 1, 2 and 3
-unfoldable pub refusedText : List ℕ → Refusal → List ℕ
-refusedText trace r = refusalLine r ++ lineText (sourceOf r) (lineOf trace [] r)
-
 -- of the events of an accepted trace: a race line for each listed pair in the list's order, then the counts line
 unfoldable pub listText : List Event → List ℕ
 listText es = raceLines (pairBytes (listOf es)) ++ countsLine (countsOf es)
 
 abbrev pub textOf : List ℕ → Refusal ⊎ List Event → List ℕ
-textOf trace (inl r) = refusedText trace r
+textOf trace (inl r) = refusedText trace [] r
 textOf trace (inr es) = listText es
 
 -- what `racelist` prints of a trace's text

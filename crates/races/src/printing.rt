@@ -1,29 +1,14 @@
 // What `racelist` prints, put into a buffer.
 use crate::answer::ListAnswer;
 use crate::listing::list_races;
+use diagnostics::put_item;
 use digits::put_byte;
-use digits::put_bytes;
-use digits::put_number;
 use pairs::Counts;
-use refusals::Refusal;
-use refusals::Source;
-ghost use mathlib.Core.List.{[], _∷_, _++_};
 ghost use Prim.Native.Nat.{_+_, _≤_, _<_, _^_};
 ghost use lib.ListN.{length};
 ghost use Rattle.digits.specs.Print.{Put};
-ghost use Rattle.refusals.specs.Refusals.{placeOf};
 ghost use Rattle.pairs.specs.Counting.{Small};
-ghost use Rattle.races.specs.Report.{item, raceLine, raceLines, countsLine, refusalLine, refusedText, reportText};
-
-// A key and its number.
-fn put_item(out: &mut [u8], at: usize, key: &[u8], v: u32) -> usize
-    requires { ⌜ (at < 2 ^ 31) × (length (now key) ≤ 16) ⌝ }
-    ensures { λ r. ⌜ Put (item (now (key .entry)) v) at (now (out .entry)) r (now (out .exit)) ⌝ }
-    ensures { λ r. ⌜ r ≤ at + 26 ⌝ }
-{
-    let n = put_bytes(out, at, key);
-    put_number(out, n, v)
-}
+ghost use Rattle.races.specs.Report.{raceLine, raceLines, countsLine, reportText};
 
 // `race=3,4`
 fn put_race(out: &mut [u8], at: usize, i: u8, j: u8) -> usize
@@ -65,44 +50,6 @@ fn put_counts(out: &mut [u8], at: usize, c: Counts) -> usize
     l + 1
 }
 
-// `refused=4 place=2`
-fn put_refusal(out: &mut [u8], refusal: Refusal) -> usize
-    requires { ⌜ placeOf refusal < 2 ^ 32 ⌝ }
-    ensures { λ r. ⌜ Put (refusalLine refusal) 0 (now (out .entry)) r (now (out .exit)) ⌝ }
-    ensures { λ r. ⌜ r ≤ 54 ⌝ }
-{
-    let number = refusal.number();
-    let place = refusal.place();
-    let n = put_item(out, 0, b"refused=", number as u32);
-    let p = put_item(out, n, b" place=", place as u32);
-    put_byte(out, p, b'\n');
-    p + 1
-}
-
-// A line and its LF.
-fn put_line(out: &mut [u8], at: usize, line: &[u8]) -> usize
-    requires { ⌜ (at ≤ 54) × (length (now line) < 2 ^ 63) ⌝ }
-    ensures { λ r. ⌜ Put (now (line .entry) ++ (10 ∷ [])) at (now (out .entry)) r (now (out .exit)) ⌝ }
-{
-    let n = put_bytes(out, at, line);
-    put_byte(out, n, b'\n');
-    n + 1
-}
-
-// A refusal, with the refused line where there is one.
-fn put_refused(out: &mut [u8], trace: &[u8], refusal: Refusal) -> usize
-    requires { ⌜ placeOf refusal < 2 ^ 32 ⌝ }
-    ensures { λ r. ⌜ Put (refusedText (now (trace .entry)) refusal) 0 (now (out .entry)) r (now (out .exit)) ⌝ }
-{
-    let n = put_refusal(out, refusal);
-    let source = refusal.source();
-    match source {
-        Source::Neither => n,
-        Source::Trace => put_line(out, n, refusals::refused_line(trace, &trace[..0], refusal)),
-        Source::Tables => put_line(out, n, refusals::refused_line(trace, &trace[..0], refusal)),
-    }
-}
-
 // What `racelist` prints of a trace. No list takes more than 65,280 bytes, so that the list call never finds its buffer short.
 pub fn report(trace: &[u8], out: &mut [u8]) -> usize
     ensures { λ r. ⌜ Put (reportText (now (trace .entry))) 0 (now (out .entry)) r (now (out .exit)) ⌝ }
@@ -116,6 +63,6 @@ pub fn report(trace: &[u8], out: &mut [u8]) -> usize
             let at = put_races(out, &list[..n]);
             put_counts(out, at, c)
         }
-        ListAnswer::Refused(r) => put_refused(out, trace, r),
+        ListAnswer::Refused(r) => diagnostics::refused(out, trace, &trace[..0], r),
     }
 }

@@ -20,7 +20,7 @@ fn print_answer<'a>(
             io::write_all(STDOUT_FILENO, lines::front(answers, m));
         }
         ReplayAnswer::Refused(e) => {
-            report::refused(trace, tables, e);
+            output::refused(trace, tables, e);
         }
     }
 }
@@ -47,8 +47,8 @@ fn replay_within<'a>(
     let a = replay::replay(trace, tables, order, ends, answers);
     print_answer(trace, tables, a, ends, answers);
     if 0 < ends.len() {
-        report::field(b"first=", wide(ends[0]));
-        report::end_line();
+        output::field(b"first=", wide(ends[0]));
+        output::end_line();
     }
 }
 
@@ -90,8 +90,8 @@ fn replay_recorded<'a>(trace: &'a [u8], tables: &'a [u8]) {
 }
 
 fn replay_line<'a>(trace: &'a [u8], tables: &'a [u8], orders: &[u8], k: usize) {
-    report::field(b"order ", k as u64);
-    report::end_line();
+    output::field(b"order ", k as u64);
+    output::end_line();
     replay_order(trace, tables, lines::line_at(orders, k));
 }
 
@@ -114,7 +114,7 @@ fn replay_texts<'a>(trace: &'a [u8], tables: &'a [u8], orders_name: &[u8]) {
 fn replay_files(name: &[u8], trace_name: &[u8], tables_name: &[u8], orders_name: &[u8]) {
     io::write_all(STDOUT_FILENO, b"trace ");
     io::write_all(STDOUT_FILENO, name);
-    report::end_line();
+    output::end_line();
     let mut trace = io::large_buffer();
     let mut tables = io::large_buffer();
     let first = input::read_file(trace_name, &mut trace);

@@ -30,7 +30,7 @@ fn print_replay<'a>(trace: &'a [u8], tables: &'a [u8], order: &[u8]) {
             io::write_all(STDOUT_FILENO, lines::front(&answers, m));
         }
         ReplayAnswer::Refused(e) => {
-            report::refused(trace, tables, e);
+            output::refused(trace, tables, e);
         }
     }
 }

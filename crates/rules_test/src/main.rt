@@ -14,7 +14,7 @@ fn answer(tables: &[u8], a: NormalAnswer, out: &[u8]) {
             io::write_all(STDOUT_FILENO, lines::front(out, n));
         }
         NormalAnswer::Refused(e) => {
-            report::refused(b"", tables, e);
+            output::refused(b"", tables, e);
         }
     }
 }
@@ -58,7 +58,7 @@ fn read_file(path: &[u8]) {
 fn run(path: &[u8]) {
     io::write_all(STDOUT_FILENO, b"text ");
     io::write_all(STDOUT_FILENO, path);
-    report::end_line();
+    output::end_line();
     read_file(path);
 }
 

@@ -10,11 +10,11 @@ const CASES: u8 = 150;
 fn answer(text: &[u8], outcome: Outcome, events: usize) {
     match outcome {
         Outcome::Accepted => {
-            report::field(b"accepted events=", events as u64);
-            report::end_line();
+            output::field(b"accepted events=", events as u64);
+            output::end_line();
         }
         Outcome::Refused(r) => {
-            report::refused(text, b"", r);
+            output::refused(text, b"", r);
         }
     }
 }
@@ -40,7 +40,7 @@ fn numbered(i: u8) {
     let name = [b'0' + i / 100 % 10, b'0' + i / 10 % 10, b'0' + i % 10];
     io::write_all(STDOUT_FILENO, b"text ");
     io::write_all(STDOUT_FILENO, &name);
-    report::end_line();
+    output::end_line();
     read_file(&name);
 }
 

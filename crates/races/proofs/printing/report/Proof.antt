@@ -7,7 +7,7 @@ use lib.ListN.{replicate, length-replicate}
 use lib.Seq.{length-take-le}
 use Rattle.digits.proofs.Writing.{put-then}
 use Rattle.trace.specs.TraceText.{readTrace}
-use Rattle.races.proofs.Answered.{Listing, call-counts, call-refusal, counts-put, refused-put, place-small}
+use Rattle.races.proofs.Answered.{Listing, call-counts, call-refusal, counts-put, refused-put}
 use borrow.Author.Needs.{needs}
 use Rattle.races.proofs.printing.report.Statement.{statement}
 use Rattle.races.proofs.printing.report.Tie as tie
@@ -37,16 +37,13 @@ put-races-requires c κs =
 put-counts-requires : tie.Need-put-counts-requires
 put-counts-requires c κs = (omega (arith, c .before .before .before .put-races .ensures .1), listing (c .before .before .before .before .before .before) .small)
 
-put-refused-requires : tie.Need-put-refused-requires
-put-refused-requires c κs = place-small _ _ (refusal (c .before .before))
-
 returns : tie.Need-returns
 returns c =
     counts-put _ _ _ (listing (c .before .before .before .before .before .before .before .before .before))
     (put-then (c .before .before .before .before .before .before .put-races .ensures .0) (c .before .before .put-counts .ensures))
 
 returns-2 : tie.Need-returns-2
-returns-2 c = refused-put _ _ (refusal (c .before .before .before .before .before)) (c .before .before .put-refused .ensures)
+returns-2 c = refused-put _ _ (refusal (c .before .before .before .before .before .before)) (c .before .before .refused .ensures)
 
 pub report-spec : {M : Type 1} → statement M
 report-spec =
@@ -57,6 +54,6 @@ report-spec =
     slice-aggregate-put-races
     put-races-requires
     put-counts-requires (λ c. search needs)
-    put-refused-requires (λ c. search needs)
+    (λ c. search needs) (λ c κs. search needs) (λ c. search needs)
     returns (λ c. search needs)
     returns-2)

@@ -1,7 +1,7 @@
 use Rattle.digits.proofs.Writing.{put-then, put-one}
 use borrow.Author.Needs.{needs}
-use Rattle.races.proofs.printing.put_line.Statement.{statement}
-use Rattle.races.proofs.printing.put_line.Tie as tie
+use Rattle.diagnostics.proofs.put_line.Statement.{statement}
+use Rattle.diagnostics.proofs.put_line.Tie as tie
 
 returns : tie.Need-returns
 returns c = put-then (c .before .before .before .before .before .before .put-bytes .ensures) (put-one _ 10 _ _ (c .before .before .put-byte .ensures))

@@ -1,9 +1,9 @@
 use native.Mathlib.Omega.{arith}
 use Rattle.digits.proofs.Writing.{put-then, print-length}
-use Rattle.races.specs.Report.{item}
+use Rattle.diagnostics.specs.Report.{item}
 use borrow.Author.Needs.{needs}
-use Rattle.races.proofs.printing.put_item.Statement.{statement}
-use Rattle.races.proofs.printing.put_item.Tie as tie
+use Rattle.diagnostics.proofs.put_item.Statement.{statement}
+use Rattle.diagnostics.proofs.put_item.Tie as tie
 
 returns : tie.Need-returns
 unfolding item

@@ -1,23 +1,32 @@
 -- A line, by what each of its items reads as.
-use Prim.Native.Nat.{ℕ}
+use Prim.Native.Nat.{ℕ, _<_, _^_}
 use mathlib.Core.Bool.{Bool, true, false, cond}
-use mathlib.Core.List.{List}
+use mathlib.Core.List.{List, [], _∷_}
 use mathlib.Core.Logic.{_⊎_, inl, inr}
 use mathlib.Core.Option.{Option, none, some}
 use mathlib.Core.Path.{_≡_, refl, sym, ap, _∙_}
+use native.Mathlib.Omega.{arith}
+use denote.Enum.Declared.{tagOf}
+use types.Run.{OneOf, miss}
 use lib.Dec.{eqb}
 use lib.ListN.{length}
 use Rattle.digits.specs.Reading.{Reader, andThen, mapped, keyed, both}
 use Rattle.digits.specs.Number.{readNumber}
+use Rattle.fields.proofs.Steps.{keyed-most}
+use Rattle.eventline.proofs.words.Word.{the-type}
 use Rattle.eventline.specs.declared.words.Word.the-variants as W
-use Rattle.eventline.specs.Types.{TraceMalformed, EventMisnumbered, TraceAddressBit, Tokens, Operation, Other, Event, Word}
+use Rattle.eventline.specs.Types.{TraceMalformed, EventMisnumbered, TraceAddressBit, Tokens, Entry, TableOperation, Operation, Other, Event, Word, Write}
 use Rattle.eventline.specs.Words.{readWord}
 use Rattle.eventline.specs.TokenLists.{readTokens}
-use Rattle.eventline.specs.EventLine.{evKey, doKey, inKey, outKey, swKey, readSwitch, readOn, readOperation, readBehind, readItems, readNumbered, readLine, onLine, readEvent, clearOperation}
+use Rattle.eventline.specs.EventLine.{evKey, doKey, inKey, outKey, swKey, readSwitch, writeOf, readOn, readOperation, readBehind, readItems, readNumbered, readLine, onLine, readEvent, clearOperation}
 
 -- what an arm reads is what the word asks for
 pub by-word : (w : ℕ) (s : List ℕ) (at : ℕ) {x : Option (Operation × ℕ)} {u v : Word} → u ≡ v → x ≡ readOn v w s at → x ≡ readOn u w s at
 by-word w s at e h = h ∙ ap (λ u. readOn u w s at) (sym e)
+
+-- and so with a write
+pub by-write : (e : Entry) {x : TableOperation} {u v : Write} → u ≡ v → x ≡ writeOf v e → x ≡ writeOf u e
+by-write e p h = h ∙ ap (λ u. writeOf u e) (sym p)
 
 -- what is made of a value that was read
 module _ {A B : Type 0} (f : A → B) (read : Reader A) (s : List ℕ) (at : ℕ) where
@@ -29,15 +38,19 @@ module _ {A B : Type 0} (f : A → B) (read : Reader A) (s : List ℕ) (at : ℕ
   unfolding mapped
   mapped-some e = rw e refl
 
+-- a number that was read behind a key is as small as its largest
+pub number-below : (max bound : ℕ) (key s : List ℕ) (at : ℕ) {v n : ℕ} → max < bound → max < 10 ^ 10 → keyed key (readNumber max) s at ≡ some (v, n) → v < bound
+number-below max bound key s at b h e = omega (arith, keyed-most max s at _ _ h key e)
+
 -- for all words but `oth` the switch is read, and then the word's own fields
 module _ (s : List ℕ) (at : ℕ) where
   pub no-switch : {u : Word} → u ≡ W.Other → some (Other, at) ≡ readOperation u s at
   unfolding readOperation
   no-switch e = rw e refl
 
-  behind-switch : (u : Word) → (u ≡ W.Other → ⊥) → andThen readSwitch (readOn u) s at ≡ readOperation u s at
+  behind-switch : (u : Word) → OneOf (1 ∷ 2 ∷ 3 ∷ 4 ∷ 5 ∷ 6 ∷ 7 ∷ 8 ∷ 9 ∷ []) (tagOf the-type u) → andThen readSwitch (readOn u) s at ≡ readOperation u s at
   unfolding readOperation
-  behind-switch W.Other h = absurd (h refl)
+  behind-switch W.Other h = absurd (miss (1 ∷ 2 ∷ 3 ∷ 4 ∷ 5 ∷ 6 ∷ 7 ∷ 8 ∷ 9 ∷ []) 0 tt h)
   behind-switch W.Barrier h = refl
   behind-switch W.Message h = refl
   behind-switch W.Packet h = refl
@@ -48,7 +61,8 @@ module _ (s : List ℕ) (at : ℕ) where
   behind-switch W.DeleteStrict h = refl
   behind-switch W.Delete h = refl
 
-  module _ (u : Word) (h : u ≡ W.Other → ⊥) where
+  -- where the word's number is not that of `oth`
+  module _ (u : Word) (h : OneOf (1 ∷ 2 ∷ 3 ∷ 4 ∷ 5 ∷ 6 ∷ 7 ∷ 8 ∷ 9 ∷ []) (tagOf the-type u)) where
     pub bad-switch : keyed swKey (readNumber 15) s at ≡ none → none ≡ readOperation u s at
     unfolding andThen readSwitch
     bad-switch e = rw (← behind-switch u h, e) refl

@@ -9,6 +9,7 @@ use borrow.Author.Tests.{lt-ltb, le-ltb, eq-eqb, ne-eqb}
 use lib.ListN.{length, getD, length-append, List·getD-eq-default}
 use Rattle.digits.specs.Reading.{onRead, mapped, andThen}
 use Rattle.digits.specs.Number.{readNumber}
+use Rattle.digits.proofs.Numbers.{number-only}
 use Rattle.events.specs.Events.{tokensOf}
 use Rattle.eventline.specs.Types.{Tokens, NextToken}
 use Rattle.eventline.specs.TokenLists.{nextToken, readMore, readSome, readTokenList, readTokens, tokensFrom}
@@ -20,6 +21,10 @@ byte-in s i b e h =
       | yes l ↦ l
       | no l ↦ absurd (omega (arith, List·getD-eq-default s 0 {n = i} (omega arith)))
     ]
+
+-- a token that was read is a 16-bit number
+pub token-below : (s : List ℕ) (at : ℕ) {v n : ℕ} → readNumber 65535 s at ≡ some (v, n) → v < 65536
+token-below s at e = omega (arith, number-only 65535 s at _ _ (omega arith) e)
 
 -- ---- what follows a token
 module _ (last : ℕ) (s : List ℕ) (at : ℕ) where

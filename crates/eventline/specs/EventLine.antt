@@ -98,7 +98,7 @@ unfoldable pub readSwitch : Reader ℕ
 readSwitch = keyed swKey (readNumber 15)
 
 -- the operations of the four words with an entry
-abbrev pub writeOf : Write → Entry → TableOperation
+unfoldable pub writeOf : Write → Entry → TableOperation
 writeOf Write.Add e = Add e
 writeOf Write.AddChecked e = AddChecked e
 writeOf Write.ModifyStrict e = ModifyStrict e

@@ -1,13 +1,13 @@
 use mathlib.Core.Path.{_∙_}
-use native.Mathlib.Omega.{arith}
+use Prim.Native.Nat.{_^_}
+use lib.Dec.{lit<}
 use borrow.Author.Needs.{needs}
 use Rattle.digits.specs.Number.{asNumber}
 use Rattle.digits.proofs.Readers.{seen}
-use Rattle.fields.proofs.Steps.{keyed-most}
 use Rattle.eventline.specs.Words.{asWord}
 use Rattle.eventline.specs.TokenLists.{asTokens}
-use Rattle.eventline.specs.EventLine.{evKey, asOperation}
-use Rattle.eventline.proofs.LineLaws.{bad-number, bad-word, bad-ins, bad-outs, bad-operation, items-read}
+use Rattle.eventline.specs.EventLine.{asOperation}
+use Rattle.eventline.proofs.LineLaws.{number-below, bad-number, bad-word, bad-ins, bad-outs, bad-operation, items-read}
 use Rattle.eventline.proofs.line.event_line.Statement.{statement}
 use Rattle.eventline.proofs.line.event_line.Tie as tie
 
@@ -46,7 +46,7 @@ cast-checked c =
     let o = p .before .before .before .before in
     let i = o .before .before .before .before .before in
     let w = i .before .before .before .before .before in
-    omega (arith, keyed-most _ _ _ _ _ (omega arith) evKey (seen asNumber (w .before .before .before .before .number-at .ensures) (w .before .before .ev .given .1)))
+    record { fits = number-below _ (2 ^ 64) _ _ _ (lit< tt) (lit< tt) (seen asNumber (w .before .before .before .before .number-at .ensures) (w .before .before .ev .given .1)) }
 
 returns-6 : tie.Need-returns-6
 returns-6 c =

@@ -1,6 +1,6 @@
 use mathlib.Core.Path.{refl}
 use borrow.Author.Needs.{needs}
-use Rattle.eventline.specs.EventLine.{readOn}
+use Rattle.eventline.specs.EventLine.{writeOf, readOn}
 use Rattle.eventline.proofs.LineLaws.{by-word}
 use Rattle.eventline.proofs.operation.fields_at.Statement.{statement}
 use Rattle.eventline.proofs.operation.fields_at.Tie as tie
@@ -22,19 +22,19 @@ unfolding readOn
 returns-4 c = by-word _ _ _ (c .before .enum-told4 .given .1) (c .lookup-at .ensures)
 
 returns-5 : tie.Need-returns-5
-unfolding readOn
+unfolding readOn writeOf
 returns-5 c = by-word _ _ _ (c .before .enum-told5 .given .1) (c .write-at .ensures)
 
 returns-6 : tie.Need-returns-6
-unfolding readOn
+unfolding readOn writeOf
 returns-6 c = by-word _ _ _ (c .before .enum-told6 .given .1) (c .write-at2 .ensures)
 
 returns-7 : tie.Need-returns-7
-unfolding readOn
+unfolding readOn writeOf
 returns-7 c = by-word _ _ _ (c .before .enum-told7 .given .1) (c .write-at3 .ensures)
 
 returns-8 : tie.Need-returns-8
-unfolding readOn
+unfolding readOn writeOf
 returns-8 c = by-word _ _ _ (c .before .enum-told8 .given .1) (c .write-at4 .ensures)
 
 returns-9 : tie.Need-returns-9

@@ -1,13 +1,10 @@
-use Prim.Native.Nat.{ℕ, _+_}
-use mathlib.Core.Option.{some}
-use mathlib.Core.Path.{_≡_, sym, _∙_}
+use mathlib.Core.Path.{sym, _∙_}
 use native.Mathlib.Omega.{arith}
 use denote.Ref.{now}
 use borrow.Author.Needs.{needs}
-use Rattle.digits.specs.Number.{readNumber, asNumber}
+use Rattle.digits.specs.Number.{asNumber}
 use Rattle.digits.proofs.Readers.{seen}
-use Rattle.digits.proofs.Numbers.{number-only}
-use Rattle.eventline.proofs.TokenListLaws.{byte-in, next-end, next-bad, next-low, next-above}
+use Rattle.eventline.proofs.TokenListLaws.{byte-in, token-below, next-end, next-bad, next-low, next-above}
 use Rattle.eventline.proofs.tokens.next_token.Statement.{statement}
 use Rattle.eventline.proofs.tokens.next_token.Tie as tie
 
@@ -27,8 +24,7 @@ returns-2 c =
 cast-token : tie.Need-cast-token
 cast-token c =
     let b = c .before .before .before in
-    let a = b .before .before .before .before .args in
-    record { fits = omega (arith, number-only 65535 (now (a .s)) (a .at + 1) _ _ (omega arith) (seen asNumber (b .read-number .ensures) (c .before .value .given .1))) }
+    record { fits = token-below _ _ (seen asNumber (b .read-number .ensures) (c .before .value .given .1)) }
 
 returns-3 : tie.Need-returns-3
 returns-3 c =

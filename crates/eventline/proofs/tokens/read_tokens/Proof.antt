@@ -4,8 +4,7 @@ use denote.Ref.{now}
 use borrow.Author.Needs.{needs}
 use Rattle.digits.specs.Number.{asNumber}
 use Rattle.digits.proofs.Readers.{seen}
-use Rattle.digits.proofs.Numbers.{number-only}
-use Rattle.eventline.proofs.TokenListLaws.{byte-in, tokens-none, tokens-bad, tokens-some}
+use Rattle.eventline.proofs.TokenListLaws.{byte-in, token-below, tokens-none, tokens-bad, tokens-some}
 use Rattle.eventline.proofs.tokens.read_tokens.Statement.{statement}
 use Rattle.eventline.proofs.tokens.read_tokens.Tie as tie
 
@@ -25,8 +24,7 @@ returns-2 c =
 cast-read-more : tie.Need-cast-read-more
 cast-read-more c =
     let b = c .before .before .before in
-    let a = b .before .before .before .before .args in
-    record { fits = omega (arith, number-only 65535 (now (a .s)) (a .at) _ _ (omega arith) (seen asNumber (b .read-number .ensures) (c .before .value .given .1))) }
+    record { fits = token-below _ _ (seen asNumber (b .read-number .ensures) (c .before .value .given .1)) }
 
 returns-3 : tie.Need-returns-3
 returns-3 c =

@@ -33,8 +33,8 @@ fn numbered(i: u8) {
     run(&name);
 }
 
-// The rehearsals of examples/, each with its repaired trace; then the numbered files.
-fn main() {
+// The rehearsals of examples/, each with its repaired trace.
+fn rehearsals() {
     run(b"packet_early");
     run(b"packet_early_repaired");
     run(b"one_key");
@@ -43,6 +43,10 @@ fn main() {
     run(b"overlap_repaired");
     run(b"aisle");
     run(b"aisle_repaired");
+}
+
+fn main() {
+    rehearsals();
     for i in 0..CASES {
         numbered(i);
     }

@@ -192,7 +192,7 @@ has-from : (i b n : ℕ) → b ≤ i → i < b + n → has i (from b n) ≡ true
 has-from i b zero l m = absurd (omega arith)
 has-from i b (suc n) l m = split (eqb i b) (λ e. rw e refl) (λ e. let d = eqb-false i b e in rw e (has-from i (suc b) n (omega arith) (omega arith)))
 
-stands-from : (i j b n : ℕ) → b ≤ i → i < j → j < b + n → stands i j (from b n) ≡ true
+pub stands-from : (i j b n : ℕ) → b ≤ i → i < j → j < b + n → stands i j (from b n) ≡ true
 stands-from i j b zero l m k = absurd (omega arith)
 stands-from i j b (suc n) l m k =
     split (eqb i b)

@@ -73,7 +73,7 @@ unfolding readLines
 lines-read [] k w b = refl
 lines-read (e ∷ es) k w b = rw (event-reads k e (omega arith) (w .0 .0) (w .0 .1), lines-read es (k + 1) (w .1) (omega arith)) refl
 
-lines-length : (k : ℕ) (es : List Event) → length (printFrom k es) ≡ length es
+pub lines-length : (k : ℕ) (es : List Event) → length (printFrom k es) ≡ length es
 lines-length k [] = refl
 lines-length k (e ∷ es) = ap suc (lines-length (k + 1) es)
 

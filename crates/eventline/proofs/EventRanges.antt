@@ -1,5 +1,4 @@
 -- What is written, and has no address bit past its prefix, is in range.
-use Prim.Native.Nat.{_≤_, _<_}
 use mathlib.Core.Bool.{true}
 use mathlib.Core.Path.{_≡_}
 use native.Mathlib.Omega.{arith}

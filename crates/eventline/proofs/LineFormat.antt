@@ -1,16 +1,15 @@
 -- The lines of the grammar are read, each as its number and event, and no other line is; so no event has a second text.
 use Prim.Native.Nat.{ℕ, _≤_}
-use mathlib.Core.Bool.{true}
-use mathlib.Core.List.{List, _++_}
-use mathlib.Core.Logic.{_↔_, _⊎_, inr}
+use mathlib.Core.List.{List}
+use mathlib.Core.Logic.{_↔_}
 use mathlib.Core.Option.{Option, none, some, Option·some-injective}
-use mathlib.Core.Path.{_≡_, refl, sym, _∙_, ap}
+use mathlib.Core.Path.{_≡_, refl, _∙_, ap}
 use native.Mathlib.Omega.{arith}
 use borrow.Author.Tests.{eq-eqb, eqb-true}
 use lib.Dec.{eqb}
 use lib.ListN.{length}
 use Rattle.digits.specs.Number.{isDigit}
-use Rattle.digits.specs.Format.{Ends, Follows, Format}
+use Rattle.digits.specs.Format.{Follows, Format}
 use Rattle.digits.proofs.Readers.{nothing, on-cond}
 use Rattle.digits.proofs.Numbers.{number-format}
 use Rattle.digits.proofs.Format.{keyed-format, along, tagged, both-format, whole}

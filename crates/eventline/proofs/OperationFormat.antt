@@ -2,12 +2,11 @@
 use Prim.Native.Nat.{ℕ, _+_, _≤_}
 use mathlib.Core.List.{List, [], _++_}
 use mathlib.Core.Option.{Option, none, some}
-use mathlib.Core.Path.{_≡_, refl, sym, _∙_, ap, subst}
+use mathlib.Core.Path.{_≡_, refl, sym, _∙_, subst}
 use native.Mathlib.Nat.{add-zero}
 use native.Mathlib.Omega.{arith}
 use lib.ListN.{length, drop}
 use Rattle.digits.specs.Reading.{Reader, onRead, andThen, mapped, both}
-use Rattle.digits.specs.Print.{printNumber}
 use Rattle.digits.specs.Format.{Ends, Follows, Format}
 use Rattle.digits.proofs.Readers.{same-value, same-place, on-read}
 use Rattle.digits.proofs.Numbers.{number-format}

@@ -1,17 +1,17 @@
 -- A token list is read from its own text, and from no other.
 use Prim.Native.Nat.{ℕ, zero, suc, _+_, _≤_, _<_}
-use mathlib.Core.Bool.{true, false, cond}
+use mathlib.Core.Bool.{false}
 use mathlib.Core.List.{List, [], _∷_, _++_, append-assoc}
 use mathlib.Core.Option.{Option, none, some}
 use mathlib.Core.Path.{_≡_, refl, sym, _∙_, ap}
-use native.Mathlib.Nat.{add-zero, add-assoc}
+use native.Mathlib.Nat.{add-zero}
 use native.Mathlib.Numerals.{add-one}
 use native.Mathlib.Omega.{arith}
 use borrow.Author.Tests.{eq-eqb, ne-eqb, eqb-true, eqb-false, ltb-true}
 use lib.Dec.{eqb, ltb}
 use lib.ListN.{length, getD, drop, length-append}
 use lib.Seq.{drop-cons}
-use Rattle.digits.specs.Reading.{Reader, mapped, andThen}
+use Rattle.digits.specs.Reading.{mapped, andThen}
 use Rattle.digits.specs.Number.{isDigit, readNumber}
 use Rattle.digits.specs.Print.{printNumber}
 use Rattle.digits.specs.Format.{Ends, Format}
@@ -19,7 +19,7 @@ use Rattle.digits.proofs.Format.{along}
 use Rattle.digits.proofs.Readers.{nothing, same-value, same-place, on-cond, on-read, behind, here}
 use Rattle.digits.proofs.Numbers.{number-reads, number-only, number-none}
 use Rattle.events.specs.Events.{tokensOf}
-use Rattle.eventline.specs.Types.{Tokens, NextToken}
+use Rattle.eventline.specs.Types.{NextToken}
 use Rattle.eventline.specs.TokenLists.{printMore, printTokens, aboveLast, nextToken, onNext, readMore, readSome, readTokenList, tokensFrom, readTokens, Rising, ListWritten, TokensWritten}
 use Rattle.eventline.proofs.TokenListLaws.{byte-in, next-end, next-above, tokens-from}
 

@@ -9,7 +9,7 @@ use lib.ListN.{length}
 use Rattle.lines.specs.Lines.{lines, endsWithLf}
 use Rattle.events.specs.Events.{tokensOf, shares, eventAt, eventsOf}
 use Rattle.eventline.specs.EventLine.{readEvent}
-use Rattle.trace.specs.Types.{Refusal, TraceTooLong, TraceUnended, TraceTooManyLines, TokenTwice, TokenTooEarly, Event, Trace, Place, Outcome, TraceRead}
+use Rattle.trace.specs.Types.{Refusal, TraceTooLong, TraceUnended, TraceTooManyLines, TokenTwice, TokenTooEarly, Event, Place, Outcome, TraceRead}
 use Rattle.trace.specs.Search.{anyBelow, lowest}
 
 -- the tokens that line i takes in and puts out

@@ -34,10 +34,22 @@ impl Match {
         let proto = self.proto;
         let sport = self.sport;
         let dport = self.dport;
-        port.fits(p.port)
-            & (src.fits(p.src)
-                & (dst.fits(p.dst)
-                    & (proto.fits(p.proto) & (sport.fits(p.sport) & dport.fits(p.dport)))))
+        if !port.fits(p.port) {
+            return false;
+        }
+        if !src.fits(p.src) {
+            return false;
+        }
+        if !dst.fits(p.dst) {
+            return false;
+        }
+        if !proto.fits(p.proto) {
+            return false;
+        }
+        if !sport.fits(p.sport) {
+            return false;
+        }
+        dport.fits(p.dport)
     }
 
     pub fn overlaps(self, other: Match) -> bool
@@ -55,11 +67,22 @@ impl Match {
         let its_sport = other.sport;
         let dport = self.dport;
         let its_dport = other.dport;
-        port.overlaps(its_port)
-            & (src.overlaps(its_src)
-                & (dst.overlaps(its_dst)
-                    & (proto.overlaps(its_proto)
-                        & (sport.overlaps(its_sport) & dport.overlaps(its_dport)))))
+        if !port.overlaps(its_port) {
+            return false;
+        }
+        if !src.overlaps(its_src) {
+            return false;
+        }
+        if !dst.overlaps(its_dst) {
+            return false;
+        }
+        if !proto.overlaps(its_proto) {
+            return false;
+        }
+        if !sport.overlaps(its_sport) {
+            return false;
+        }
+        dport.overlaps(its_dport)
     }
 
     pub fn within(self, other: Match) -> bool
@@ -77,11 +100,22 @@ impl Match {
         let its_sport = other.sport;
         let dport = self.dport;
         let its_dport = other.dport;
-        port.within(its_port)
-            & (src.within(its_src)
-                & (dst.within(its_dst)
-                    & (proto.within(its_proto)
-                        & (sport.within(its_sport) & dport.within(its_dport)))))
+        if !port.within(its_port) {
+            return false;
+        }
+        if !src.within(its_src) {
+            return false;
+        }
+        if !dst.within(its_dst) {
+            return false;
+        }
+        if !proto.within(its_proto) {
+            return false;
+        }
+        if !sport.within(its_sport) {
+            return false;
+        }
+        dport.within(its_dport)
     }
 
     // No address bit stands past its prefix's length.

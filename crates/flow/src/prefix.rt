@@ -1,7 +1,7 @@
 // An IPv4 prefix, compared by bit masks.
 use crate::ordering::Ordering;
 ghost use mathlib.Core.Path.{_≡_};
-ghost use Rattle.flow.specs.Matches.{maskOf, prefixFits, prefixOverlaps, prefixWithin, prefixClear};
+ghost use Rattle.flow.specs.Matches.{maskOf, sameLeading, prefixFits, prefixOverlaps, prefixWithin, prefixClear};
 ghost use Rattle.flow.specs.Entries.{orderOf, thenBy};
 
 pub struct Prefix {
@@ -53,27 +53,45 @@ pub fn mask(length: u8) -> u32
     if n < 33 { MASKS[n] } else { 0xffff_ffff }
 }
 
+// Two addresses have the same first bits, as many as the length says. Equal addresses and length 0 need no mask.
+fn same_leading(a: u32, b: u32, length: u8) -> bool
+    ensures { λ r. ⌜ r ≡ sameLeading a b length ⌝ }
+{
+    if a == b {
+        return true;
+    }
+    if length == 0 {
+        return true;
+    }
+    let m = mask(length);
+    a & m == b & m
+}
+
 impl Prefix {
     pub fn fits(self, x: u32) -> bool
         ensures { λ r. ⌜ r ≡ prefixFits self x ⌝ }
     {
-        let m = mask(self.length);
-        x & m == self.value & m
+        same_leading(x, self.value, self.length)
     }
 
+    // The bits of the shorter length decide.
     pub fn overlaps(self, other: Prefix) -> bool
         ensures { λ r. ⌜ r ≡ prefixOverlaps self other ⌝ }
     {
-        let m = mask(self.length) & mask(other.length);
-        self.value & m == other.value & m
+        if self.length < other.length {
+            return same_leading(self.value, other.value, self.length);
+        }
+        same_leading(self.value, other.value, other.length)
     }
 
+    // A shorter one lies within no longer one; else the bits of the other's length decide.
     pub fn within(self, other: Prefix) -> bool
         ensures { λ r. ⌜ r ≡ prefixWithin self other ⌝ }
     {
-        let m = mask(self.length);
-        let n = mask(other.length);
-        (m & n == n) & (self.value & n == other.value & n)
+        if (self.length < other.length) & (self.length < 32) {
+            return false;
+        }
+        same_leading(self.value, other.value, other.length)
     }
 
     // No address bit stands past the length.

@@ -42,6 +42,14 @@ and-absorb-right true q h = refl
 and-absorb-right false true h = sym (h refl)
 and-absorb-right false false h = refl
 
+pub and-assoc : (p q r : Bool) → ((p && q) && r) ≡ (p && (q && r))
+and-assoc true q r = refl
+and-assoc false q r = refl
+
+pub and-true : (p : Bool) → (p && true) ≡ p
+and-true true = refl
+and-true false = refl
+
 pub and-swap : (a b c d : Bool) → ((a && b) && (c && d)) ≡ ((a && c) && (b && d))
 and-swap true true c d = refl
 and-swap true false true d = refl

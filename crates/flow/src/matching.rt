@@ -4,7 +4,7 @@ use crate::ordering::Ordering;
 use crate::prefix::Prefix;
 ghost use mathlib.Core.Path.{_≡_};
 ghost use Rattle.flow.specs.Matches.{fits, overlaps, within, clear};
-ghost use Rattle.flow.specs.Entries.{matchOrder};
+ghost use Rattle.flow.specs.Entries.{sameMatch, matchOrder};
 
 pub struct Match {
     pub port: Exact,
@@ -125,6 +125,39 @@ impl Match {
         let src = self.src;
         let dst = self.dst;
         src.is_clear() & dst.is_clear()
+    }
+
+    pub fn same(self, other: Match) -> bool
+        ensures { λ r. ⌜ r ≡ sameMatch self other ⌝ }
+    {
+        let port = self.port;
+        let its_port = other.port;
+        let src = self.src;
+        let its_src = other.src;
+        let dst = self.dst;
+        let its_dst = other.dst;
+        let proto = self.proto;
+        let its_proto = other.proto;
+        let sport = self.sport;
+        let its_sport = other.sport;
+        let dport = self.dport;
+        let its_dport = other.dport;
+        if !port.same(its_port) {
+            return false;
+        }
+        if !src.same(its_src) {
+            return false;
+        }
+        if !dst.same(its_dst) {
+            return false;
+        }
+        if !proto.same(its_proto) {
+            return false;
+        }
+        if !sport.same(its_sport) {
+            return false;
+        }
+        dport.same(its_dport)
     }
 
     pub fn order(self, other: Match) -> Ordering

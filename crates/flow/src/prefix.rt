@@ -2,7 +2,7 @@
 use crate::ordering::Ordering;
 ghost use mathlib.Core.Path.{_≡_};
 ghost use Rattle.flow.specs.Matches.{maskOf, sameLeading, prefixFits, prefixOverlaps, prefixWithin, prefixClear};
-ghost use Rattle.flow.specs.Entries.{orderOf, thenBy};
+ghost use Rattle.flow.specs.Entries.{samePrefix, orderOf, thenBy};
 
 pub struct Prefix {
     pub value: u32,
@@ -100,6 +100,12 @@ impl Prefix {
     {
         let m = mask(self.length);
         self.value & m == self.value
+    }
+
+    pub fn same(self, other: Prefix) -> bool
+        ensures { λ r. ⌜ r ≡ samePrefix self other ⌝ }
+    {
+        (self.value == other.value) & (self.length == other.length)
     }
 
     // By value, then by length.

@@ -71,11 +71,19 @@ pub same-none : (v w n : ℕ) → n ≡ 0 → sameLeading v w n ≡ true
 unfolding maskOf
 same-none v w n e = rw e (eq-eqb (bitAnd v 0) (bitAnd w 0) (and-zero-r v ∙ sym (and-zero-r w)))
 
-pub overlaps-shorter : (p q : Prefix) → p .length < q .length → prefixOverlaps p q ≡ sameLeading (p .value) (q .value) (p .length)
-overlaps-shorter p q h = rw (shared-mask (p .length) (q .length) (omega arith))
+pub same-all : (v w n : ℕ) → v < 2 ^ 32 → w < 2 ^ 32 → 32 ≤ n → (v ≡ w → ⊥) → sameLeading v w n ≡ false
+same-all v w n h k i d = ne-eqb _ _ (λ e. d (sym (whole v h) ∙ e ∙ whole w k))
+  where
+    whole : (a : ℕ) → a < 2 ^ 32 → bitAnd a (maskOf n) ≡ a
+    whole a l = let z : 32 - n ≡ 0 = omega arith in leaves a n l ∙ rw z (omega arith)
 
-pub overlaps-longer : (p q : Prefix) → q .length ≤ p .length → prefixOverlaps p q ≡ sameLeading (p .value) (q .value) (q .length)
-overlaps-longer p q h = rw (nested (p .length) (q .length) (omega arith))
+both-masks : (k l : ℕ) → bitAnd (maskOf k) (maskOf l) ≡ maskOf (min k l)
+both-masks k l = split (leb l k)
+    (λ e. let i = leb-true l k e in let m : l ≡ min k l = omega arith in nested k l (omega arith) ∙ ap maskOf m)
+    (λ e. let i = leb-false l k e in let m : k ≡ min k l = omega arith in shared-mask k l (omega arith) ∙ ap maskOf m)
+
+pub overlaps-shorter : (p q : Prefix) → prefixOverlaps p q ≡ sameLeading (p .value) (q .value) (min (p .length) (q .length))
+overlaps-shorter p q = rw (both-masks (p .length) (q .length))
 
 -- the test that one is the shorter, where a length over 32 counts as 32
 pub within-shorter : (p q : Prefix) → (ltb (p .length) (q .length) && ltb (p .length) 32) ≡ true → prefixWithin p q ≡ false
@@ -136,17 +144,7 @@ prefix-fits-leading p x h k = leading x (p .value) (p .length) k h
 -- two overlap if the leading bits that both compare are the same
 pub prefix-overlaps-leading : (p q : Prefix) → p .value < 2 ^ 32 → q .value < 2 ^ 32
     → prefixOverlaps p q ≡ eqb (p .value / 2 ^ (32 - min (p .length) (q .length))) (q .value / 2 ^ (32 - min (p .length) (q .length)))
-prefix-overlaps-leading p q h k = rw (both-masks (leb (q .length) (p .length)) refl) (leading (p .value) (q .value) (min (p .length) (q .length)) h k)
-  where
-    both-masks : (b : Bool) → leb (q .length) (p .length) ≡ b → bitAnd (maskOf (p .length)) (maskOf (q .length)) ≡ maskOf (min (p .length) (q .length))
-    both-masks true e =
-        let l = leb-true (q .length) (p .length) e in
-        let m : q .length ≡ min (p .length) (q .length) = omega arith in
-        nested (p .length) (q .length) (omega arith) ∙ ap maskOf m
-    both-masks false e =
-        let l = leb-false (q .length) (p .length) e in
-        let m : p .length ≡ min (p .length) (q .length) = omega arith in
-        shared-mask (p .length) (q .length) (omega arith) ∙ ap maskOf m
+prefix-overlaps-leading p q h k = overlaps-shorter p q ∙ leading (p .value) (q .value) (min (p .length) (q .length)) h k
 
 -- one lies within another if it is at least as long and has the other's leading bits
 pub prefix-within-leading : (p q : Prefix) → p .value < 2 ^ 32 → q .value < 2 ^ 32 → q .length ≤ 32

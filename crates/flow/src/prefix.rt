@@ -1,6 +1,7 @@
 // An IPv4 prefix, compared by bit masks.
 use crate::ordering::Ordering;
 ghost use mathlib.Core.Path.{_≡_};
+ghost use Prim.Native.Nat.{min};
 ghost use Rattle.flow.specs.Matches.{maskOf, sameLeading, prefixFits, prefixOverlaps, prefixWithin, prefixClear};
 ghost use Rattle.flow.specs.Entries.{samePrefix, orderOf, thenBy};
 
@@ -53,7 +54,13 @@ pub fn mask(length: u8) -> u32
     if n < 33 { MASKS[n] } else { 0xffff_ffff }
 }
 
-// Two addresses have the same first bits, as many as the length says. Equal addresses and length 0 need no mask.
+fn shorter(a: u8, b: u8) -> u8
+    ensures { λ r. ⌜ r ≡ min a b ⌝ }
+{
+    if a < b { a } else { b }
+}
+
+// Two addresses have the same first bits, as many as the length says. Equal addresses, no bits and all 32 need no mask.
 fn same_leading(a: u32, b: u32, length: u8) -> bool
     ensures { λ r. ⌜ r ≡ sameLeading a b length ⌝ }
 {
@@ -62,6 +69,9 @@ fn same_leading(a: u32, b: u32, length: u8) -> bool
     }
     if length == 0 {
         return true;
+    }
+    if length >= 32 {
+        return false;
     }
     let m = mask(length);
     a & m == b & m
@@ -78,10 +88,8 @@ impl Prefix {
     pub fn overlaps(self, other: Prefix) -> bool
         ensures { λ r. ⌜ r ≡ prefixOverlaps self other ⌝ }
     {
-        if self.length < other.length {
-            return same_leading(self.value, other.value, self.length);
-        }
-        same_leading(self.value, other.value, other.length)
+        let n = shorter(self.length, other.length);
+        same_leading(self.value, other.value, n)
     }
 
     // A shorter one lies within no longer one; else the bits of the other's length decide.

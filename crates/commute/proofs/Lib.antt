@@ -3,3 +3,4 @@ pub mod Exact
 pub mod Theorems
 pub mod Marked
 pub mod Arms
+pub mod Decided

@@ -19,7 +19,10 @@ pub fn add_add(d: Entry, e: Entry) -> bool
     let k = e.key;
     let a = d.action;
     let b = e.action;
-    !j.same(k) | a.same(b)
+    if a.same(b) {
+        return true;
+    }
+    !j.same(k)
 }
 
 pub fn add_delete_strict(d: Entry, k: Key) -> bool
@@ -46,13 +49,22 @@ pub fn add_modify(d: Entry, e: Entry) -> bool
     let n = k.pattern;
     let a = d.action;
     let b = e.action;
-    !m.within(n) | (j.same(k) & a.same(b))
+    if !m.within(n) {
+        return true;
+    }
+    if !a.same(b) {
+        return false;
+    }
+    j.same(k)
 }
 
 pub fn checked_other(d: Entry, k: Key) -> bool
     ensures { λ r. ⌜ r ≡ addc-other (d .key) k ⌝ }
 {
     let j = d.key;
+    if j.priority != k.priority {
+        return true;
+    }
     !table::clash(j, k)
 }
 
@@ -63,7 +75,10 @@ pub fn checked_modify(d: Entry, e: Entry) -> bool
     let k = e.key;
     let m = j.pattern;
     let n = k.pattern;
-    !m.within(n) & !table::clash(j, k)
+    if m.within(n) {
+        return false;
+    }
+    checked_other(d, k)
 }
 
 pub fn apart_delete(d: Entry, m: Match) -> bool
@@ -92,7 +107,12 @@ pub fn modify_modify(d: Entry, e: Entry) -> bool
     let n = k.pattern;
     let a = d.action;
     let b = e.action;
-    let same = a.same(b);
+    if !m.overlaps(n) {
+        return true;
+    }
+    if !a.same(b) {
+        return false;
+    }
     let apart = !m.within(n) & !n.within(m);
-    !m.overlaps(n) | ((same & apart) | (j.same(k) & same))
+    apart | j.same(k)
 }

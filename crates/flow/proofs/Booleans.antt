@@ -1,6 +1,7 @@
 -- Laws of Booleans that the other files cite. Assumes nothing.
-use mathlib.Core.Path.{_≡_, refl, sym}
-use mathlib.Core.Bool.{Bool, true, false, _&&_, _||_, cond, false≢true, true≢false}
+use mathlib.Core.Path.{_≡_, refl, sym, _∙_}
+use mathlib.Core.Bool.{Bool, true, false, _&&_, _||_, not, cond, false≢true, true≢false}
+use borrow.Author.Tests.{not-true, not-false}
 
 -- by cases, with the equation
 pub split : {G : Type 0} (b : Bool) → (b ≡ true → G) → (b ≡ false → G) → G
@@ -41,11 +42,26 @@ and-absorb-right true q h = refl
 and-absorb-right false true h = sym (h refl)
 and-absorb-right false false h = refl
 
+pub and-assoc : (p q r : Bool) → ((p && q) && r) ≡ (p && (q && r))
+and-assoc true q r = refl
+and-assoc false q r = refl
+
+pub and-true : (p : Bool) → (p && true) ≡ p
+and-true true = refl
+and-true false = refl
+
 pub and-swap : (a b c d : Bool) → ((a && b) && (c && d)) ≡ ((a && c) && (b && d))
 and-swap true true c d = refl
 and-swap true false true d = refl
 and-swap true false false d = refl
 and-swap false b c d = refl
+
+-- a test r of p, told by its negation: where it fails so does p and what follows, and where it holds what follows decides
+pub fails : {r p : Bool} (q : Bool) → r ≡ p → not r ≡ true → false ≡ (p && q)
+fails {r} {p} q e t = rw (← e, not-true r t)
+
+pub holds : {r p x : Bool} {q : Bool} → r ≡ p → not r ≡ false → x ≡ q → x ≡ (p && q)
+holds {r} {p} {x} {q} e t f = rw (← e, not-false r t) f
 
 pub or-left : (x y : Bool) → (x || y) ≡ false → x ≡ false
 or-left true y e = absurd (true≢false e)

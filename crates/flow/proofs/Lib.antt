@@ -9,3 +9,4 @@ pub mod Matches
 pub mod Leading
 pub mod Orders
 pub mod Entries
+pub mod SameKey

@@ -5,13 +5,13 @@ use mathlib.Core.Logic.{_↔_}
 use mathlib.Core.Bool.{Bool, true, false, _&&_, cond}
 use Prim.Native.Nat.{ℕ, _+_, _*_, _/_, _%_, _-_, _^_, _≤_, _<_, min}
 use native.Mathlib.Omega.{arith}
-use lib.Dec.{eqb, leb}
+use lib.Dec.{eqb, leb, ltb}
 use lib.Pow.{pow-pos, pow-mono, pow-lt, pow-sub-lt, high-ones, high, shr-mod, shl-shr, split as pow-split}
-use lib.Bits.{bitAnd, and-high, and-comm}
-use borrow.Author.Tests.{eq-eqb, ne-eqb, eqb-true, leb-true, leb-false}
+use lib.Bits.{bitAnd, and-high, and-comm, and-zero-r}
+use borrow.Author.Tests.{eq-eqb, ne-eqb, eqb-true, leb-true, leb-false, ltb-true, ltb-false}
 use Rattle.flow.specs.Types.{Prefix}
-use Rattle.flow.specs.Matches.{maskedFits, maskedMeet, maskOf, maskedOf, prefixFits, prefixOverlaps, prefixWithin, prefixMeet, prefixClear, PrefixInRange}
-use Rattle.flow.proofs.Booleans.{split, both-ways, and-intro, and-absorb, and-absorb-right}
+use Rattle.flow.specs.Matches.{maskedFits, maskedMeet, maskOf, maskedOf, sameLeading, prefixFits, prefixOverlaps, prefixWithin, prefixMeet, prefixClear, PrefixInRange}
+use Rattle.flow.proofs.Booleans.{split, both-ways, and-intro, and-left, and-right, and-cases, and-absorb, and-absorb-right}
 use Rattle.flow.proofs.Field.{IsField, along}
 use Rattle.flow.proofs.MaskedField.{MaskedInRange, masked-field}
 
@@ -32,7 +32,7 @@ unfolding maskOf
 mask-lt l = pow-sub-lt 32 (pow-pos (32 - l))
 
 -- a shorter prefix's mask is a part of a longer one's
-pub nested : (k l : ℕ) → l ≤ k → bitAnd (maskOf k) (maskOf l) ≡ maskOf l
+pub nested : (k l : ℕ) → 32 - k ≤ 32 - l → bitAnd (maskOf k) (maskOf l) ≡ maskOf l
 unfolding maskOf
 nested k l h =
     let s : ℕ = 32 - l in
@@ -48,13 +48,64 @@ nested k l h =
     ∙ ap (λ q. q * 2 ^ s) (high (2 ^ j - 1) s {lo = 2 ^ s - 2 ^ t} (omega arith))
     ∙ sym f
 
+-- of two masks the shorter length's is the one that they share
+shared-mask : (k l : ℕ) → 32 - l ≤ 32 - k → bitAnd (maskOf k) (maskOf l) ≡ maskOf k
+shared-mask k l h = and-comm (maskOf k) (maskOf l) ∙ nested l k h
+
+masks-differ : (k l : ℕ) → k < l → k < 32 → maskOf k ≡ maskOf l → ⊥
+unfolding maskOf
+masks-differ k l h i e =
+    let a : 2 ^ (32 - l) < 2 ^ (32 - k) = pow-lt {i = 32 - l} {j = 32 - k} (omega arith) in
+    let b : 2 ^ (32 - k) ≤ 2 ^ 32 = pow-mono {i = 32 - k} {j = 32} (omega arith) in
+    omega arith
+
+-- and a longer length's is no part of it
+not-nested : (k l : ℕ) → k < l → k < 32 → eqb (bitAnd (maskOf k) (maskOf l)) (maskOf l) ≡ false
+not-nested k l h i = ne-eqb _ _ (λ g. masks-differ k l h i (sym (shared-mask k l (omega arith)) ∙ g))
+
+-- ---- overlap and within, by the bits of one length
+pub same-equal : (v w n : ℕ) → v ≡ w → sameLeading v w n ≡ true
+same-equal v w n e = eq-eqb _ _ (ap (λ a. bitAnd a (maskOf n)) e)
+
+pub same-none : (v w n : ℕ) → n ≡ 0 → sameLeading v w n ≡ true
+unfolding maskOf
+same-none v w n e = rw e (eq-eqb (bitAnd v 0) (bitAnd w 0) (and-zero-r v ∙ sym (and-zero-r w)))
+
+pub same-all : (v w n : ℕ) → v < 2 ^ 32 → w < 2 ^ 32 → 32 ≤ n → (v ≡ w → ⊥) → sameLeading v w n ≡ false
+same-all v w n h k i d = ne-eqb _ _ (λ e. d (sym (whole v h) ∙ e ∙ whole w k))
+  where
+    whole : (a : ℕ) → a < 2 ^ 32 → bitAnd a (maskOf n) ≡ a
+    whole a l = let z : 32 - n ≡ 0 = omega arith in leaves a n l ∙ rw z (omega arith)
+
+both-masks : (k l : ℕ) → bitAnd (maskOf k) (maskOf l) ≡ maskOf (min k l)
+both-masks k l = split (leb l k)
+    (λ e. let i = leb-true l k e in let m : l ≡ min k l = omega arith in nested k l (omega arith) ∙ ap maskOf m)
+    (λ e. let i = leb-false l k e in let m : k ≡ min k l = omega arith in shared-mask k l (omega arith) ∙ ap maskOf m)
+
+pub overlaps-shorter : (p q : Prefix) → prefixOverlaps p q ≡ sameLeading (p .value) (q .value) (min (p .length) (q .length))
+overlaps-shorter p q = rw (both-masks (p .length) (q .length))
+
+-- the test that one is the shorter, where a length over 32 counts as 32
+pub within-shorter : (p q : Prefix) → (ltb (p .length) (q .length) && ltb (p .length) 32) ≡ true → prefixWithin p q ≡ false
+within-shorter p q e =
+    let h = ltb-true (p .length) (q .length) (and-left (ltb (p .length) (q .length)) (ltb (p .length) 32) e) in
+    let i = ltb-true (p .length) 32 (and-right (ltb (p .length) (q .length)) (ltb (p .length) 32) e) in
+    rw (not-nested (p .length) (q .length) h i)
+
+pub within-longer : (p q : Prefix) → (ltb (p .length) (q .length) && ltb (p .length) 32) ≡ false → prefixWithin p q ≡ sameLeading (p .value) (q .value) (q .length)
+within-longer p q e =
+    let h : 32 - p .length ≤ 32 - q .length = and-cases (ltb (p .length) (q .length)) (ltb (p .length) 32) e
+    (λ u. let l = ltb-false (p .length) (q .length) u in omega arith)
+    (λ u. let l = ltb-false (p .length) 32 u in omega arith) in
+    rw (eq-eqb (bitAnd (maskOf (p .length)) (maskOf (q .length))) (maskOf (q .length)) (nested (p .length) (q .length) h))
+
 in-range : (p : Prefix) → PrefixInRange p → MaskedInRange 32 (maskedOf p)
 in-range p h = record { value = h .value; mask = mask-lt (p .length); clear = h .clear }
 
 -- of two prefixes that overlap, the longer lies within the other
 longer-within : (p q : Prefix) → q .length ≤ p .length → prefixOverlaps p q ≡ true → prefixWithin p q ≡ true
 longer-within p q h e =
-    let n = nested (p .length) (q .length) h in
+    let n = nested (p .length) (q .length) (omega arith) in
     and-intro (eq-eqb (bitAnd (maskOf (p .length)) (maskOf (q .length))) (maskOf (q .length)) n) (rw n at e)
 
 overlap-turned : (p q : Prefix) → prefixOverlaps p q ≡ true → prefixOverlaps q p ≡ true
@@ -93,24 +144,7 @@ prefix-fits-leading p x h k = leading x (p .value) (p .length) k h
 -- two overlap if the leading bits that both compare are the same
 pub prefix-overlaps-leading : (p q : Prefix) → p .value < 2 ^ 32 → q .value < 2 ^ 32
     → prefixOverlaps p q ≡ eqb (p .value / 2 ^ (32 - min (p .length) (q .length))) (q .value / 2 ^ (32 - min (p .length) (q .length)))
-prefix-overlaps-leading p q h k = rw (both-masks (leb (q .length) (p .length)) refl) (leading (p .value) (q .value) (min (p .length) (q .length)) h k)
-  where
-    both-masks : (b : Bool) → leb (q .length) (p .length) ≡ b → bitAnd (maskOf (p .length)) (maskOf (q .length)) ≡ maskOf (min (p .length) (q .length))
-    both-masks true e =
-        let l = leb-true (q .length) (p .length) e in
-        let m : q .length ≡ min (p .length) (q .length) = omega arith in
-        nested (p .length) (q .length) l ∙ ap maskOf m
-    both-masks false e =
-        let l = leb-false (q .length) (p .length) e in
-        let m : p .length ≡ min (p .length) (q .length) = omega arith in
-        and-comm (maskOf (p .length)) (maskOf (q .length)) ∙ nested (q .length) (p .length) (omega arith) ∙ ap maskOf m
-
-masks-differ : (k l : ℕ) → k < l → l ≤ 32 → maskOf k ≡ maskOf l → ⊥
-unfolding maskOf
-masks-differ k l h i e =
-    let a : 2 ^ (32 - l) < 2 ^ (32 - k) = pow-lt {i = 32 - l} {j = 32 - k} (omega arith) in
-    let b : 2 ^ (32 - k) ≤ 2 ^ 32 = pow-mono {i = 32 - k} {j = 32} (omega arith) in
-    omega arith
+prefix-overlaps-leading p q h k = overlaps-shorter p q ∙ leading (p .value) (q .value) (min (p .length) (q .length)) h k
 
 -- one lies within another if it is at least as long and has the other's leading bits
 pub prefix-within-leading : (p q : Prefix) → p .value < 2 ^ 32 → q .value < 2 ^ 32 → q .length ≤ 32
@@ -118,11 +152,12 @@ pub prefix-within-leading : (p q : Prefix) → p .value < 2 ^ 32 → q .value < 
 prefix-within-leading p q h k l = ap₂ _&&_ (masks (leb (q .length) (p .length)) refl) (leading (p .value) (q .value) (q .length) h k)
   where
     masks : (b : Bool) → leb (q .length) (p .length) ≡ b → eqb (bitAnd (maskOf (p .length)) (maskOf (q .length))) (maskOf (q .length)) ≡ leb (q .length) (p .length)
-    masks true e = eq-eqb _ _ (nested (p .length) (q .length) (leb-true (q .length) (p .length) e)) ∙ sym e
+    masks true e =
+        let i = leb-true (q .length) (p .length) e in
+        eq-eqb _ _ (nested (p .length) (q .length) (omega arith)) ∙ sym e
     masks false e =
         let i = leb-false (q .length) (p .length) e in
-        let f : bitAnd (maskOf (p .length)) (maskOf (q .length)) ≡ maskOf (p .length) = and-comm (maskOf (p .length)) (maskOf (q .length)) ∙ nested (q .length) (p .length) (omega arith) in
-        ne-eqb _ _ (λ g. masks-differ (p .length) (q .length) i l (sym f ∙ g)) ∙ sym e
+        not-nested (p .length) (q .length) i (omega arith) ∙ sym e
 
 -- no bit stands past the length
 pub prefix-clear-means : (p : Prefix) → p .value < 2 ^ 32 → (prefixClear p ≡ true) ↔ (p .value % 2 ^ (32 - p .length) ≡ 0)

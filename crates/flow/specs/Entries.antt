@@ -1,10 +1,10 @@
 -- Document 01, "Flow table": keys, actions, entries, and the order of a table. That it is a strict total order of the keys is
 -- proved in proofs/Entries.antt.
-use mathlib.Core.Bool.{Bool, true, false, cond}
+use mathlib.Core.Bool.{Bool, true, false, _&&_, cond}
 use mathlib.Core.List.{List, [], _∷_}
 use Prim.Native.Nat.{ℕ, _+_, _<_}
 use lib.Dec.{eqb, ltb}
-use Rattle.flow.specs.Types.{Exact, Any, Is, Match, Action, Drop, Controller, Port, Key, Entry, Ordering, Less, Equal, Greater}
+use Rattle.flow.specs.Types.{Exact, Any, Is, Prefix, Match, Action, Drop, Controller, Port, Key, Entry, Ordering, Less, Equal, Greater}
 use Rattle.flow.specs.Matches.{MatchInRange}
 
 -- the order of two numbers
@@ -55,6 +55,22 @@ isEqual Greater = false
 -- the same key
 unfoldable pub sameKey : Key → Key → Bool
 sameKey j k = isEqual (keyOrder j k)
+
+-- the same match, field by field: table order finds no difference (proofs/Entries.antt)
+abbrev pub sameExact : Exact → Exact → Bool
+sameExact a b = eqb (exactRank a) (exactRank b)
+
+abbrev pub samePrefix : Prefix → Prefix → Bool
+samePrefix p q = eqb (p .value) (q .value) && eqb (p .length) (q .length)
+
+unfoldable pub sameMatch : Match → Match → Bool
+sameMatch m n =
+    sameExact (m .port) (n .port)
+    && (samePrefix (m .src) (n .src)
+    && (samePrefix (m .dst) (n .dst)
+    && (sameExact (m .proto) (n .proto)
+    && (sameExact (m .sport) (n .sport)
+    && sameExact (m .dport) (n .dport)))))
 
 -- a number for each action; the same action
 abbrev pub actionCode : Action → ℕ

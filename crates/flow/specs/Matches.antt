@@ -58,6 +58,10 @@ maskOf n = 2 ^ 32 - 2 ^ (32 - n)
 abbrev pub maskedOf : Prefix → Masked
 maskedOf p = record { value = p .value; mask = maskOf (p .length) }
 
+-- two addresses have the same leading bits, as many as a length says
+abbrev pub sameLeading : ℕ → ℕ → ℕ → Bool
+sameLeading v w n = eqb (bitAnd v (maskOf n)) (bitAnd w (maskOf n))
+
 abbrev pub prefixFits : Prefix → ℕ → Bool
 prefixFits p x = maskedFits (maskedOf p) x
 

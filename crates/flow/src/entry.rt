@@ -29,12 +29,12 @@ impl Key {
     pub fn same(self, other: Key) -> bool
         ensures { λ r. ⌜ r ≡ sameKey self other ⌝ }
     {
-        let o = self.order(other);
-        match o {
-            Ordering::Less => false,
-            Ordering::Equal => true,
-            Ordering::Greater => false,
+        if self.priority != other.priority {
+            return false;
         }
+        let m = self.pattern;
+        let n = other.pattern;
+        m.same(n)
     }
 }
 

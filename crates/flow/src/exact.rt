@@ -2,7 +2,7 @@
 use crate::ordering::Ordering;
 ghost use mathlib.Core.Path.{_≡_};
 ghost use Rattle.flow.specs.Matches.{exactFits, exactOverlaps, exactWithin};
-ghost use Rattle.flow.specs.Entries.{exactRank, orderOf, thenBy};
+ghost use Rattle.flow.specs.Entries.{exactRank, sameExact, orderOf, thenBy};
 
 pub enum Exact {
     Any,
@@ -51,6 +51,15 @@ impl Exact {
             Exact::Any => 0,
             Exact::Is(a) => (a as u32) + 1,
         }
+    }
+
+    pub fn same(self, other: Exact) -> bool
+        ensures { λ r. ⌜ r ≡ sameExact self other ⌝ }
+    {
+        let Exact::Is(a) = self else {
+            return 0 == other.rank();
+        };
+        (a as u32) + 1 == other.rank()
     }
 
     pub fn order(self, other: Exact, next: Ordering) -> Ordering

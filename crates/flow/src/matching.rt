@@ -4,7 +4,7 @@ use crate::ordering::Ordering;
 use crate::prefix::Prefix;
 ghost use mathlib.Core.Path.{_≡_};
 ghost use Rattle.flow.specs.Matches.{fits, overlaps, within, clear};
-ghost use Rattle.flow.specs.Entries.{matchOrder};
+ghost use Rattle.flow.specs.Entries.{sameMatch, matchOrder};
 
 pub struct Match {
     pub port: Exact,
@@ -34,10 +34,22 @@ impl Match {
         let proto = self.proto;
         let sport = self.sport;
         let dport = self.dport;
-        port.fits(p.port)
-            & (src.fits(p.src)
-                & (dst.fits(p.dst)
-                    & (proto.fits(p.proto) & (sport.fits(p.sport) & dport.fits(p.dport)))))
+        if !port.fits(p.port) {
+            return false;
+        }
+        if !src.fits(p.src) {
+            return false;
+        }
+        if !dst.fits(p.dst) {
+            return false;
+        }
+        if !proto.fits(p.proto) {
+            return false;
+        }
+        if !sport.fits(p.sport) {
+            return false;
+        }
+        dport.fits(p.dport)
     }
 
     pub fn overlaps(self, other: Match) -> bool
@@ -55,11 +67,22 @@ impl Match {
         let its_sport = other.sport;
         let dport = self.dport;
         let its_dport = other.dport;
-        port.overlaps(its_port)
-            & (src.overlaps(its_src)
-                & (dst.overlaps(its_dst)
-                    & (proto.overlaps(its_proto)
-                        & (sport.overlaps(its_sport) & dport.overlaps(its_dport)))))
+        if !port.overlaps(its_port) {
+            return false;
+        }
+        if !src.overlaps(its_src) {
+            return false;
+        }
+        if !dst.overlaps(its_dst) {
+            return false;
+        }
+        if !proto.overlaps(its_proto) {
+            return false;
+        }
+        if !sport.overlaps(its_sport) {
+            return false;
+        }
+        dport.overlaps(its_dport)
     }
 
     pub fn within(self, other: Match) -> bool
@@ -77,11 +100,22 @@ impl Match {
         let its_sport = other.sport;
         let dport = self.dport;
         let its_dport = other.dport;
-        port.within(its_port)
-            & (src.within(its_src)
-                & (dst.within(its_dst)
-                    & (proto.within(its_proto)
-                        & (sport.within(its_sport) & dport.within(its_dport)))))
+        if !port.within(its_port) {
+            return false;
+        }
+        if !src.within(its_src) {
+            return false;
+        }
+        if !dst.within(its_dst) {
+            return false;
+        }
+        if !proto.within(its_proto) {
+            return false;
+        }
+        if !sport.within(its_sport) {
+            return false;
+        }
+        dport.within(its_dport)
     }
 
     // No address bit stands past its prefix's length.
@@ -91,6 +125,39 @@ impl Match {
         let src = self.src;
         let dst = self.dst;
         src.is_clear() & dst.is_clear()
+    }
+
+    pub fn same(self, other: Match) -> bool
+        ensures { λ r. ⌜ r ≡ sameMatch self other ⌝ }
+    {
+        let port = self.port;
+        let its_port = other.port;
+        let src = self.src;
+        let its_src = other.src;
+        let dst = self.dst;
+        let its_dst = other.dst;
+        let proto = self.proto;
+        let its_proto = other.proto;
+        let sport = self.sport;
+        let its_sport = other.sport;
+        let dport = self.dport;
+        let its_dport = other.dport;
+        if !port.same(its_port) {
+            return false;
+        }
+        if !src.same(its_src) {
+            return false;
+        }
+        if !dst.same(its_dst) {
+            return false;
+        }
+        if !proto.same(its_proto) {
+            return false;
+        }
+        if !sport.same(its_sport) {
+            return false;
+        }
+        dport.same(its_dport)
     }
 
     pub fn order(self, other: Match) -> Ordering

@@ -1,8 +1,9 @@
 // An IPv4 prefix, compared by bit masks.
 use crate::ordering::Ordering;
 ghost use mathlib.Core.Path.{_≡_};
-ghost use Rattle.flow.specs.Matches.{maskOf, prefixFits, prefixOverlaps, prefixWithin, prefixClear};
-ghost use Rattle.flow.specs.Entries.{orderOf, thenBy};
+ghost use Prim.Native.Nat.{min};
+ghost use Rattle.flow.specs.Matches.{maskOf, sameLeading, prefixFits, prefixOverlaps, prefixWithin, prefixClear};
+ghost use Rattle.flow.specs.Entries.{samePrefix, orderOf, thenBy};
 
 pub struct Prefix {
     pub value: u32,
@@ -53,27 +54,52 @@ pub fn mask(length: u8) -> u32
     if n < 33 { MASKS[n] } else { 0xffff_ffff }
 }
 
+fn shorter(a: u8, b: u8) -> u8
+    ensures { λ r. ⌜ r ≡ min a b ⌝ }
+{
+    if a < b { a } else { b }
+}
+
+// Two addresses have the same first bits, as many as the length says. Equal addresses, no bits and all 32 need no mask.
+fn same_leading(a: u32, b: u32, length: u8) -> bool
+    ensures { λ r. ⌜ r ≡ sameLeading a b length ⌝ }
+{
+    if a == b {
+        return true;
+    }
+    if length == 0 {
+        return true;
+    }
+    if length >= 32 {
+        return false;
+    }
+    let m = mask(length);
+    a & m == b & m
+}
+
 impl Prefix {
     pub fn fits(self, x: u32) -> bool
         ensures { λ r. ⌜ r ≡ prefixFits self x ⌝ }
     {
-        let m = mask(self.length);
-        x & m == self.value & m
+        same_leading(x, self.value, self.length)
     }
 
+    // The bits of the shorter length decide.
     pub fn overlaps(self, other: Prefix) -> bool
         ensures { λ r. ⌜ r ≡ prefixOverlaps self other ⌝ }
     {
-        let m = mask(self.length) & mask(other.length);
-        self.value & m == other.value & m
+        let n = shorter(self.length, other.length);
+        same_leading(self.value, other.value, n)
     }
 
+    // A shorter one lies within no longer one; else the bits of the other's length decide.
     pub fn within(self, other: Prefix) -> bool
         ensures { λ r. ⌜ r ≡ prefixWithin self other ⌝ }
     {
-        let m = mask(self.length);
-        let n = mask(other.length);
-        (m & n == n) & (self.value & n == other.value & n)
+        if (self.length < other.length) & (self.length < 32) {
+            return false;
+        }
+        same_leading(self.value, other.value, other.length)
     }
 
     // No address bit stands past the length.
@@ -82,6 +108,12 @@ impl Prefix {
     {
         let m = mask(self.length);
         self.value & m == self.value
+    }
+
+    pub fn same(self, other: Prefix) -> bool
+        ensures { λ r. ⌜ r ≡ samePrefix self other ⌝ }
+    {
+        (self.value == other.value) & (self.length == other.length)
     }
 
     // By value, then by length.

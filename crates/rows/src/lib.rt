@@ -5,6 +5,7 @@ pub mod packets;
 pub mod passes;
 pub mod placing;
 pub mod row;
+pub mod searching;
 pub mod sorting;
 pub mod stepping;
 

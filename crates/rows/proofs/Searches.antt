@@ -1,0 +1,115 @@
+-- A row's place among sorted rows, searched by halving; and a row put in at its place, those from there on moved up. Assumes nothing.
+use mathlib.Core.Path.{_≡_, refl, sym, ap, _∙_, subst}
+use mathlib.Core.Bool.{Bool, true, false}
+use mathlib.Core.List.{List, [], _∷_, _++_, append-nil}
+use Prim.Native.Nat.{ℕ, zero, suc, _+_, _-_, _≤_, _<_}
+use native.Mathlib.Nat.{add-zero}
+use native.Mathlib.Numerals.{add-one}
+use native.Mathlib.Omega.{arith}
+use lib.ListN.{length, take, drop, getD, set, drop-of-length-le}
+use lib.Seq.{drop-cons, length-take-le, take-take, take-set-lt, drop-set-lt}
+use Rattle.flow.proofs.Orders.{opposite}
+use Rattle.rows.specs.Types.{Ordering, Less, Equal, Greater, Row, Search}
+use Rattle.rows.specs.Rows.{rowOrder, RowBefore, SortedRows, insertRow}
+use Rattle.rows.specs.Passes.{found, Placed}
+use Rattle.rows.specs.Searching.{narrowedBy, Searched}
+use Rattle.rows.proofs.RowOrder.{row-turn, row-chain, row-greater}
+use Rattle.rows.proofs.Pass.{next, ended, emit}
+use Rattle.rows.proofs.Places.{less, same, greater, less-found, same-found, greater-found, none-found, none-left}
+
+-- a row before all of a list is before the one at each index
+before-at : (r : Row) (xs : List Row) (m : ℕ) (d : Row) → RowBefore r xs → m < length xs → rowOrder r (getD xs m d) ≡ Less
+before-at r [] m d b h = absurd (omega arith)
+before-at r (x ∷ xs) zero d b h = b .0
+before-at r (x ∷ xs) (suc m) d b h = before-at r xs m d (b .1) (omega arith)
+
+-- a row that is greater than the one at m goes past it and all before it
+past-at : (a : Row) (rs : List Row) (m : ℕ) (d : Row) → SortedRows rs → m < length rs → rowOrder a (getD rs m d) ≡ Greater
+    → (insertRow a rs ≡ take (suc m) rs ++ insertRow a (drop (suc m) rs)) × (found a rs ≡ found a (drop (suc m) rs))
+past-at a [] m d s h o = absurd (omega arith)
+past-at a (x ∷ xs) zero d s h o = (greater a x xs o, greater-found a x xs o)
+past-at a (x ∷ xs) (suc m) d s h o =
+    let y = getD xs m d in
+    let first : rowOrder a x ≡ Greater = row-turn x a ∙ ap opposite (row-chain x y a (before-at x xs m d (s .0) (omega arith)) (row-greater a y o)) in
+    let rest = past-at a xs m d (s .1) (omega arith) o in
+    (greater a x xs first ∙ ap (λ l. x ∷ l) (rest .0), greater-found a x xs first ∙ rest .1)
+
+module _ (a : Row) (rs : List Row) where
+  pub search-start : (n : ℕ) → length rs ≡ n → Searched a rs (record { low = 0; at = n; same = false })
+  search-start n e = record {
+    narrows = omega arith;
+    within = omega arith;
+    past = refl;
+    tells-past = refl;
+    puts = ap (insertRow a) (drop-of-length-le rs {i = n} (omega arith)) ∙ none-left a ∙ ap (λ l. a ∷ l) (sym (drop-of-length-le rs {i = n + 0} (omega arith)));
+    tells = ap (found a) (drop-of-length-le rs {i = n} (omega arith)) ∙ none-found a;
+  }
+
+  -- one comparison more
+  module _ (s : Search) (m : ℕ) (l : s .low ≤ m) (h : m < s .at) where
+    narrower : (d : Row) → SortedRows rs → (o : Ordering) → rowOrder a (getD rs m d) ≡ o → Searched a rs s → Searched a rs (narrowedBy o s m)
+    narrower d g Less e k =
+        let here = drop-cons rs m d (omega (arith, k .within)) in
+        record {
+          narrows = l;
+          within = omega (arith, k .within);
+          past = k .past;
+          tells-past = k .tells-past;
+          puts = ap (insertRow a) here ∙ less a _ _ e ∙ ap (λ r. a ∷ r) (sym here ∙ ap (λ j. drop j rs) (sym (add-zero m)));
+          tells = ap (found a) here ∙ less-found a _ _ e;
+        }
+    narrower d g Equal e k =
+        let here = drop-cons rs m d (omega (arith, k .within)) in
+        record {
+          narrows = l;
+          within = omega (arith, k .within);
+          past = k .past;
+          tells-past = k .tells-past;
+          puts = ap (insertRow a) here ∙ same a _ _ e ∙ ap (λ j. a ∷ drop j rs) (sym (add-one m));
+          tells = ap (found a) here ∙ same-found a _ _ e;
+        }
+    narrower d g Greater e k =
+        let beyond = past-at a rs m d g (omega (arith, k .within)) e in
+        record {
+          narrows = omega arith;
+          within = k .within;
+          past = beyond .0 ∙ ap (λ j. take j rs ++ insertRow a (drop j rs)) (sym (add-one m));
+          tells-past = beyond .1 ∙ ap (λ j. found a (drop j rs)) (sym (add-one m));
+          puts = k .puts;
+          tells = k .tells;
+        }
+
+    pub search-turn : (d : Row) → SortedRows rs → (o : Ordering) → rowOrder a (getD rs m d) ≡ o → Searched a rs s → (r : Search) → r ≡ narrowedBy o s m → Searched a rs r
+    search-turn d g o e k r q = subst (Searched a rs) (sym q) (narrower d g o e k)
+
+  pub search-end : (s : Search) → s .at ≤ s .low → Searched a rs s → Placed a rs (s .at) (s .same)
+  search-end s h k =
+      let e : s .low ≡ s .at = omega (arith, k .narrows) in
+      record {
+        within = k .within;
+        puts = k .past ∙ ap (λ j. take j rs ++ insertRow a (drop j rs)) e ∙ ap (λ l. take (s .at) rs ++ l) (k .puts);
+        tells = sym (k .tells-past ∙ ap (λ j. found a (drop j rs)) e ∙ k .tells);
+      }
+
+-- each comparison leaves less to search
+pub search-less : (s : Search) (m : ℕ) → s .low ≤ m → m < s .at → (o : Ordering) (r : Search) → r ≡ narrowedBy o s m → r .at - r .low < s .at - s .low
+search-less s m l h Less r q = omega (arith, ap (λ x. x .low) q, ap (λ x. x .at) q)
+search-less s m l h Equal r q = omega (arith, ap (λ x. x .low) q, ap (λ x. x .at) q)
+search-less s m l h Greater r q = omega (arith, ap (λ x. x .low) q, ap (λ x. x .at) q)
+
+-- the row held is stored at j, and the one that stood there is held
+pub moved-up : (l : List Row) (n j : ℕ) (v d : Row) → j < n → n ≤ length l → take (j + 1) (set l j v) ++ getD l j d ∷ drop (j + 1) (take n (set l j v)) ≡ take j l ++ v ∷ drop j (take n l)
+moved-up l n j v d h k =
+    emit l _ j v (omega arith)
+    ∙ ap (λ r. take j l ++ v ∷ r)
+    (ap (λ r. getD l j d ∷ r) (ap (drop (j + 1)) (take-set-lt n l j v h) ∙ drop-set-lt (j + 1) (take n l) j v (omega arith)) ∙ sym (next l n j d h k))
+
+-- the last is stored: the row is put in
+pub put-in : (a : Row) (l : List Row) (n i : ℕ) (b : Bool) → b ≡ false → Placed a (take n l) i b → n ≤ length l → (out : List Row) (v : Row) → n < length out
+    → take n out ++ v ∷ drop n (take n out) ≡ take i l ++ a ∷ drop i (take n l) → take (n + 1) (set out n v) ≡ insertRow a (take n l)
+put-in a l n i true e p k out v g h = absurd (let z : _≡_ {A = ℕ} 0 1 = cc in omega arith)
+put-in a l n i false e p k out v g h =
+    let w : i ≤ n = rw length-take-le at (rw add-zero at (p .within)) in
+    sym (append-nil (take (n + 1) (set out n v))) ∙ emit out [] n v g ∙ ap (λ r. take n out ++ v ∷ r) (sym (ended out n n (omega arith) (omega arith))) ∙ h
+    ∙ ap (λ s. s ++ a ∷ drop i (take n l)) (sym (take-take i n l w))
+    ∙ ap (λ j. take i (take n l) ++ a ∷ drop j (take n l)) (sym (add-zero i)) ∙ sym (p .puts)

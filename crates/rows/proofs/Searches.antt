@@ -1,21 +1,21 @@
 -- A row's place among sorted rows, searched by halving; and a row put in at its place, those from there on moved up. Assumes nothing.
-use mathlib.Core.Path.{_≡_, refl, sym, ap, _∙_, subst}
-use mathlib.Core.Bool.{Bool, true, false}
+use mathlib.Core.Path.{_≡_, refl, sym, ap, ap₂, _∙_, subst}
+use mathlib.Core.Bool.{Bool, true, false, cond}
 use mathlib.Core.List.{List, [], _∷_, _++_, append-nil}
 use Prim.Native.Nat.{ℕ, zero, suc, _+_, _-_, _≤_, _<_}
 use native.Mathlib.Nat.{add-zero}
 use native.Mathlib.Numerals.{add-one}
 use native.Mathlib.Omega.{arith}
-use lib.ListN.{length, take, drop, getD, set, drop-of-length-le}
-use lib.Seq.{drop-cons, length-take-le, take-take, take-set-lt, drop-set-lt}
+use lib.ListN.{length, take, drop, getD, set, length-set, drop-of-length-le}
+use lib.Seq.{drop-cons, take-suc, length-take-le, take-take, take-at, drop-at, append-snoc, take-set-le, take-set-lt, drop-set-lt, getD-set-same, set-split}
 use Rattle.flow.proofs.Orders.{opposite}
 use Rattle.rows.specs.Types.{Ordering, Less, Equal, Greater, Row, Search}
 use Rattle.rows.specs.Rows.{rowOrder, RowBefore, SortedRows, insertRow}
 use Rattle.rows.specs.Passes.{found, Placed}
 use Rattle.rows.specs.Searching.{narrowedBy, Searched}
 use Rattle.rows.proofs.RowOrder.{row-turn, row-chain, row-greater}
-use Rattle.rows.proofs.Pass.{next, ended, emit}
-use Rattle.rows.proofs.Places.{less, same, greater, less-found, same-found, greater-found, none-found, none-left}
+use Rattle.rows.proofs.Pass.{next, ended}
+use Rattle.rows.proofs.Places.{less, same, greater, less-found, same-found, greater-found, none-found, none-left, replaced}
 
 -- a row before all of a list is before the one at each index
 before-at : (r : Row) (xs : List Row) (m : ℕ) (d : Row) → RowBefore r xs → m < length xs → rowOrder r (getD xs m d) ≡ Less
@@ -97,19 +97,50 @@ search-less s m l h Less r q = omega (arith, ap (λ x. x .low) q, ap (λ x. x .a
 search-less s m l h Equal r q = omega (arith, ap (λ x. x .low) q, ap (λ x. x .at) q)
 search-less s m l h Greater r q = omega (arith, ap (λ x. x .low) q, ap (λ x. x .at) q)
 
--- the row held is stored at j, and the one that stood there is held
-pub moved-up : (l : List Row) (n j : ℕ) (v d : Row) → j < n → n ≤ length l → take (j + 1) (set l j v) ++ getD l j d ∷ drop (j + 1) (take n (set l j v)) ≡ take j l ++ v ∷ drop j (take n l)
-moved-up l n j v d h k =
-    emit l _ j v (omega arith)
-    ∙ ap (λ r. take j l ++ v ∷ r)
-    (ap (λ r. getD l j d ∷ r) (ap (drop (j + 1)) (take-set-lt n l j v h) ∙ drop-set-lt (j + 1) (take n l) j v (omega arith)) ∙ sym (next l n j d h k))
+-- the first n + 1 rows but that at j
+abbrev pub without : List Row → ℕ → ℕ → List Row
+without l n j = take j l ++ drop (j + 1) (take (n + 1) l)
 
--- the last is stored: the row is put in
-pub put-in : (a : Row) (l : List Row) (n i : ℕ) (b : Bool) → b ≡ false → Placed a (take n l) i b → n ≤ length l → (out : List Row) (v : Row) → n < length out
-    → take n out ++ v ∷ drop n (take n out) ≡ take i l ++ a ∷ drop i (take n l) → take (n + 1) (set out n v) ≡ insertRow a (take n l)
-put-in a l n i true e p k out v g h = absurd (let z : _≡_ {A = ℕ} 0 1 = cc in omega arith)
-put-in a l n i false e p k out v g h =
-    let w : i ≤ n = rw length-take-le at (rw add-zero at (p .within)) in
-    sym (append-nil (take (n + 1) (set out n v))) ∙ emit out [] n v g ∙ ap (λ r. take n out ++ v ∷ r) (sym (ended out n n (omega arith) (omega arith))) ∙ h
-    ∙ ap (λ s. s ++ a ∷ drop i (take n l)) (sym (take-take i n l w))
-    ∙ ap (λ j. take i (take n l) ++ a ∷ drop j (take n l)) (sym (add-zero i)) ∙ sym (p .puts)
+-- a row moved up by one: the gap is where it was
+pub moved-up : (l : List Row) (n k : ℕ) (d : Row) → k < n → n < length l → without (set l (k + 1) (getD l k d)) n k ≡ without l n (k + 1)
+moved-up l n k d h g =
+    let y = getD l k d in
+    ap₂ (λ (a b : List Row). a ++ b) (take-set-le k l (k + 1) y (omega arith))
+    (next (set l (k + 1) y) (n + 1) (k + 1) d (omega arith) (rw length-set (omega arith))
+    ∙ ap₂ (λ (v : Row) (r : List Row). v ∷ r) (getD-set-same l (k + 1) y d (omega arith))
+    (ap (drop (k + 1 + 1)) (take-set-lt (n + 1) l (k + 1) y (omega arith)) ∙ drop-set-lt (k + 1 + 1) (take (n + 1) l) (k + 1) y (omega arith)))
+    ∙ sym (append-snoc (take k l) y _)
+    ∙ ap (λ a. a ++ drop (k + 1 + 1) (take (n + 1) l)) (sym (ap (λ j. take j l) (add-one k) ∙ take-suc l k d (omega arith)))
+
+-- a row stored at the gap
+filled : (l : List Row) (n i : ℕ) (a : Row) → i ≤ n → n < length l → take (n + 1) (set l i a) ≡ take i (without l n i) ++ a ∷ drop i (without l n i)
+filled l n i a h g =
+    let len : length (take i l) ≡ i = length-take-le i l (omega arith) in
+    take-set-lt (n + 1) l i a (omega arith) ∙ set-split (take (n + 1) l) i a (omega (arith, length-take-le (n + 1) l (omega arith)))
+    ∙ ap (λ s. s ++ a ∷ drop (suc i) (take (n + 1) l)) (take-take i (n + 1) l (omega arith))
+    ∙ ap (λ j. take i l ++ a ∷ drop j (take (n + 1) l)) (sym (add-one i))
+    ∙ sym (ap₂ (λ (x y : List Row). x ++ a ∷ y) (take-at (take i l) (drop (i + 1) (take (n + 1) l)) i len) (drop-at (take i l) (drop (i + 1) (take (n + 1) l)) i len))
+
+module _ (a : Row) (l : List Row) (n i : ℕ) (k : n < length l) (out : List Row) (g : n < length out) where
+  -- the rows from its place on are moved up, and the row is stored there
+  pub put-in : (b : Bool) → b ≡ false → Placed a (take n l) i b → without out n i ≡ without l n n → take (n + 1) (set out i a) ≡ insertRow a (take n l)
+  put-in true e p h = absurd (let z : _≡_ {A = ℕ} 0 1 = cc in omega arith)
+  put-in false e p h =
+      let w : i ≤ n = omega (arith, p .within, length-take-le n l (omega arith)) in
+      filled out n i a w g
+      ∙ ap (λ s. take i s ++ a ∷ drop i s) (h ∙ ap (λ s. take n l ++ s) (ended l (n + 1) (n + 1) (omega arith) (omega arith)) ∙ append-nil (take n l))
+      ∙ ap (λ j. take i (take n l) ++ a ∷ drop j (take n l)) (sym (add-zero i)) ∙ sym (p .puts)
+
+  -- stored over the row of its switch and key
+  put-over : (b : Bool) → b ≡ true → Placed a (take n l) i b → without out n i ≡ without l n i → take n (set out i a) ≡ insertRow a (take n l)
+  put-over false e p h = absurd (let z : _≡_ {A = ℕ} 0 1 = cc in omega arith)
+  put-over true e p h =
+      let w : i < n = omega (arith, p .within, length-take-le n l (omega arith)) in
+      sym (take-take n (n + 1) (set out i a) (omega arith))
+      ∙ ap (take n) (filled out n i a (omega arith) g ∙ ap (λ s. take i s ++ a ∷ drop i s) h ∙ sym (filled l n i a (omega arith) k))
+      ∙ take-take n (n + 1) (set l i a) (omega arith) ∙ replaced a l n i (omega arith) true e p
+
+  -- in either case
+  pub put-at : (b : Bool) → Placed a (take n l) i b → without out n i ≡ without l n (cond b i n) → take (cond b n (n + 1)) (set out i a) ≡ insertRow a (take n l)
+  put-at true p h = put-over true refl p h
+  put-at false p h = put-in false refl p h

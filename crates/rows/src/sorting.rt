@@ -12,7 +12,7 @@ pub struct Sorted {
     pub rows: Rows,
 }
 
-// Each line's place among those before it is searched, and the rows from there on move up by one. Both loops stand here, since an
+// Each line's place among those before it is searched, and the rows from there on move up by one. All loops stand here, since an
 // inner call would copy the rows at each turn.
 pub fn sort(lines: Rows) -> Sorted
     requires { ⌜ lines .len ≤ 512 ⌝ }
@@ -42,13 +42,15 @@ pub fn sort(lines: Rows) -> Sorted
                 rows: sorted,
             };
         }
-        let mut held = x;
-        for j in search.at..i {
-            let y = rows[j];
-            rows[j] = held;
-            held = y;
+        let at = search.at;
+        let mut j = i;
+        while at < j {
+            let k = j - 1;
+            let y = rows[k];
+            rows[k + 1] = y;
+            j = k;
         }
-        rows[i] = held;
+        rows[at] = x;
     }
     let sorted = Rows { rows, len: n };
     Sorted {

@@ -1,7 +1,6 @@
 -- The outer invariant: the first i rows are in order, and with them the rest of the lines sorts as all do. The second: the search for
--- line i's place. The third: the row held, between those stored and those left, is the line's row put in at its place.
+-- line i's place. The third: the rows from the place on move up, and but for the gap they stay.
 use mathlib.Core.Path.{_≡_, refl, sym, ap, _∙_}
-use mathlib.Core.List.{_∷_, _++_}
 use Prim.Native.Nat.{_+_, _-_, _≤_, _<_}
 use native.Mathlib.Omega.{arith}
 use lib.ListN.{take, drop, length, length-set}
@@ -13,7 +12,7 @@ use Rattle.rows.specs.Searching.{Searched}
 use Rattle.rows.proofs.Pass.{length-mapped, next, ended}
 use Rattle.rows.proofs.RowLaws.{sorted-insert}
 use Rattle.rows.proofs.SortLaws.{line-twice, line-first, no-lines}
-use Rattle.rows.proofs.Searches.{search-start, search-turn, search-less, search-end, moved-up, put-in}
+use Rattle.rows.proofs.Searches.{search-start, search-turn, search-less, search-end, without, moved-up, put-in}
 use Rattle.rows.proofs.sorting.sort.Statement.{statement}
 use Rattle.rows.proofs.sorting.sort.Tie as tie
 
@@ -24,13 +23,10 @@ abbrev μ-loop2 : tie.MeasureT-loop2
 μ-loop2 lines n rows i x search₀ search = search .at - search .low
 
 abbrev Inv-loop3 : tie.InvT-loop3
-Inv-loop3 lines n rows₀ i held₀ j₀ rows held j =
-    (j ≤ i)
-    × (length rows ≡ 512)
-    × (take j rows ++ held ∷ drop j (take i rows) ≡ take j₀ rows₀ ++ held₀ ∷ drop j₀ (take i rows₀))
+Inv-loop3 lines n rows₀ i x at j₀ rows j = (at ≤ j) × (j ≤ i) × (length rows ≡ 512) × (without rows i j ≡ without rows₀ i j₀)
 
 abbrev μ-loop3 : tie.MeasureT-loop3
-μ-loop3 lines n rows₀ i held₀ j₀ rows held j = i - j
+μ-loop3 lines n rows₀ i x at j₀ rows j = j
 
 abbrev Inv-loop : tie.InvT-loop
 Inv-loop lines n rows₀ i₀ rows i =
@@ -94,15 +90,17 @@ returns c =
     )
 
 loop3-holds : tie.Need-loop3-holds Inv-loop2 μ-loop2 Inv-loop3 μ-loop3 Inv-loop μ-loop
-loop3-holds c = (reach (c .before .before .before), c .before .before .before .before .before .before .loop .inv .3, refl)
+loop3-holds c = (reach (c .before .before .before), omega arith, c .before .before .before .before .before .before .loop .inv .3, refl)
 
 loop3-again : tie.Need-loop3-again Inv-loop2 μ-loop2 Inv-loop3 μ-loop3 Inv-loop μ-loop
 loop3-again c =
     let m = c .before .before .loop3 in
-    let l = c .before .before .before .before .before .before .before .before .before .loop in (
+    let l = c .before .before .before .before .before .before .before .before .before .loop in
+    let e : m .j - 1 + 1 ≡ m .j = omega (arith, c .before .loop3-test .taken) in (
       omega arith,
-      simp length-set (m .inv .1),
-      moved-up (m .rows) (l .i) (m .j) (m .held) _ (c .before .loop3-test .taken) (omega arith) ∙ m .inv .2,
+      omega arith,
+      simp length-set (m .inv .2),
+      moved-up (m .rows) (l .i) (m .j - 1) _ (omega arith) (omega arith) ∙ ap (without (m .rows) (l .i)) e ∙ m .inv .3,
     )
 
 loop-again : tie.Need-loop-again Inv-loop2 μ-loop2 Inv-loop3 μ-loop3 Inv-loop μ-loop
@@ -112,12 +110,12 @@ loop-again c =
     let l = q .before .before .before .loop in
     let t = q .before .before .before .before .before .args .t1 in
     let p = search-end _ _ (q .loop2 .search) (c .before .before .before .if1 .left) (q .loop2 .inv) in
-    let end : m .j ≡ l .i = omega (arith, m .inv .0, c .loop3-test .left) in
-    let put = put-in _ (l .rows) (l .i) (q .loop2 .search .at) _ (c .before .before .if2 .left) p (omega arith) (m .rows) (m .held) (omega arith) (rw end at (m .inv .2)) in (
+    let end : q .loop2 .search .at ≡ m .j = omega (arith, m .inv .0, c .loop3-test .left) in
+    let put = put-in _ (l .rows) (l .i) (q .loop2 .search .at) (omega arith) (m .rows) (omega arith) _ (c .before .before .if2 .left) p (ap (without (m .rows) (l .i)) end ∙ m .inv .3) in (
       omega arith,
       l .inv .1,
       l .inv .2,
-      simp length-set (m .inv .1),
+      simp length-set (m .inv .2),
       rw put (sorted-insert _ _ (l .inv .4)),
       ap (λ r. sortFrom (l .i + 1) r (drop (l .i + 1) (take (t .len) (t .rows)))) put
           ∙ sym (ap (sortFrom (l .i) (take (l .i) (l .rows))) (next (t .rows) _ (l .i) _ (q .before .before .loop-test .taken) (omega arith))
@@ -149,7 +147,7 @@ sort-spec =
     loop2-less
     loop2-again
     returns
-    loop3-holds (λ c. omega arith) (λ c. omega arith) (λ c. omega arith) (λ c. omega arith) (λ c. omega arith) (λ c. omega arith)
+    loop3-holds (λ c. omega arith) (λ c. omega arith) (λ c. omega arith) (λ c. omega arith) (λ c. omega arith) (λ c. omega arith) (λ c. omega arith)
     loop3-again (λ c. omega arith) (λ c. omega arith) (λ c. omega arith) (λ c. omega arith)
     loop-again
     returns-2)

@@ -1,7 +1,8 @@
 // The search for a row's place among sorted rows, by halving.
 use flow::Ordering;
 ghost use mathlib.Core.Path.{_≡_};
-ghost use Prim.Native.Nat.{_<_, _≤_};
+ghost use mathlib.Core.Bool.{cond};
+ghost use Prim.Native.Nat.{_+_, _<_, _≤_};
 ghost use Rattle.rows.specs.Searching.{narrowedBy};
 
 // The rows before `low` are less than the row, and it goes to `at` unless its place is found between them; `same` where the row at
@@ -43,5 +44,26 @@ impl Search {
                 same: self.same,
             },
         }
+    }
+
+    // Of n rows those from the place up to this index move up: none where the row is stored over another.
+    pub fn moves_to(self, n: usize) -> usize
+        ensures { λ r. ⌜ r ≡ cond (self .same) (self .at) n ⌝ }
+    {
+        if self.same {
+            return self.at;
+        }
+        n
+    }
+
+    // How many n rows are with the row.
+    pub fn count_with(self, n: usize) -> usize
+        requires { ⌜ n < 512 ⌝ }
+        ensures { λ r. ⌜ r ≡ cond (self .same) n (n + 1) ⌝ }
+    {
+        if self.same {
+            return n;
+        }
+        n + 1
     }
 }

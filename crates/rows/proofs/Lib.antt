@@ -6,4 +6,5 @@ pub mod Steps
 pub mod SortLaws
 pub mod Pass
 pub mod Places
+pub mod Searches
 pub mod Turns

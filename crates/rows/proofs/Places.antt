@@ -14,35 +14,35 @@ use Rattle.rows.specs.Passes.{found, foundBy, Placed}
 use Rattle.rows.proofs.Pass.{next, ended, passed, emit}
 
 module _ (a x : Row) (xs : List Row) where
-  less : rowOrder a x ≡ Less → insertRow a (x ∷ xs) ≡ a ∷ x ∷ xs
+  pub less : rowOrder a x ≡ Less → insertRow a (x ∷ xs) ≡ a ∷ x ∷ xs
   unfolding insertRow
   less e = ap (λ o. insertRowBy o a x xs (insertRow a xs)) e
 
-  same : rowOrder a x ≡ Equal → insertRow a (x ∷ xs) ≡ a ∷ xs
+  pub same : rowOrder a x ≡ Equal → insertRow a (x ∷ xs) ≡ a ∷ xs
   unfolding insertRow
   same e = ap (λ o. insertRowBy o a x xs (insertRow a xs)) e
 
-  greater : rowOrder a x ≡ Greater → insertRow a (x ∷ xs) ≡ x ∷ insertRow a xs
+  pub greater : rowOrder a x ≡ Greater → insertRow a (x ∷ xs) ≡ x ∷ insertRow a xs
   unfolding insertRow
   greater e = ap (λ o. insertRowBy o a x xs (insertRow a xs)) e
 
-  less-found : rowOrder a x ≡ Less → found a (x ∷ xs) ≡ false
+  pub less-found : rowOrder a x ≡ Less → found a (x ∷ xs) ≡ false
   unfolding found
   less-found e = ap (λ o. foundBy o (found a xs)) e
 
-  same-found : rowOrder a x ≡ Equal → found a (x ∷ xs) ≡ true
+  pub same-found : rowOrder a x ≡ Equal → found a (x ∷ xs) ≡ true
   unfolding found
   same-found e = ap (λ o. foundBy o (found a xs)) e
 
-  greater-found : rowOrder a x ≡ Greater → found a (x ∷ xs) ≡ found a xs
+  pub greater-found : rowOrder a x ≡ Greater → found a (x ∷ xs) ≡ found a xs
   unfolding found
   greater-found e = ap (λ o. foundBy o (found a xs)) e
 
-none-found : (a : Row) → found a [] ≡ false
+pub none-found : (a : Row) → found a [] ≡ false
 unfolding found
 none-found a = refl
 
-none-left : (a : Row) → insertRow a [] ≡ a ∷ []
+pub none-left : (a : Row) → insertRow a [] ≡ a ∷ []
 unfolding insertRow
 none-left a = refl
 

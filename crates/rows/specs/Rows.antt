@@ -1,7 +1,7 @@
 -- Document 01, "Tables and replay": the tables of all switches as one list of rows, switches rising, then table order; the
 -- changes of a table on such a list; and the rows of a table text's lines put in order.
 use mathlib.Core.Path.{_≡_}
-use mathlib.Core.Bool.{Bool, false, _&&_, _||_, cond}
+use mathlib.Core.Bool.{Bool, true, false, _&&_, _||_, cond}
 use mathlib.Core.Option.{Option, none, some}
 use mathlib.Core.Logic.{_⊎_, inl, inr}
 use mathlib.Core.List.{List, [], _∷_}
@@ -27,6 +27,11 @@ rowOrder r s = thenBy (orderOf (r .switch) (s .switch)) (keyOrder (r .entry .key
 -- the same switch and key
 unfoldable pub sameSlot : Row → Row → Bool
 sameSlot r s = isEqual (rowOrder r s)
+
+abbrev pub isLess : Ordering → Bool
+isLess Less = true
+isLess Equal = false
+isLess Greater = false
 
 -- every row of the list stands after r
 abbrev pub RowBefore : Row → List Row → Type 0

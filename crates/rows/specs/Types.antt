@@ -17,3 +17,4 @@ pub use Rattle.rows.specs.declared.row.Rows.{Rows}
 pub use Rattle.rows.specs.declared.filter.Filter.{Filter}
 pub use Rattle.rows.specs.declared.filter.Filter.the-variants.{Same, Within, Clash, Fits}
 pub use Rattle.rows.specs.declared.sorting.Sorted.{Sorted as SortedLines}
+pub use Rattle.rows.specs.declared.searching.Search.{Search}

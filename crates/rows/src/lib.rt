@@ -5,6 +5,7 @@ pub mod packets;
 pub mod passes;
 pub mod placing;
 pub mod row;
+pub mod searching;
 pub mod sorting;
 pub mod stepping;
 
@@ -16,6 +17,7 @@ pub use passes::remove;
 pub use placing::insert;
 pub use row::Row;
 pub use row::Rows;
+pub use searching::Search;
 pub use sorting::Sorted;
 pub use sorting::sort;
 pub use stepping::reply;

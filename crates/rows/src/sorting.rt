@@ -1,7 +1,6 @@
 // The rows of a text's lines, put in order.
-use crate::placing::place_of;
-use crate::placing::put;
 use crate::row::Rows;
+use crate::searching::Search;
 ghost use mathlib.Core.Path.{_≡_};
 ghost use Prim.Native.Nat.{_≤_};
 ghost use Rattle.rows.specs.Rows.{rowsOf, sortRows, sortAnswer};
@@ -13,27 +12,47 @@ pub struct Sorted {
     pub rows: Rows,
 }
 
+// Each line's place among those before it is searched, and the rows from there on move up by one. All loops stand here, since an
+// inner call would copy the rows at each turn.
 pub fn sort(lines: Rows) -> Sorted
     requires { ⌜ lines .len ≤ 512 ⌝ }
     ensures { λ r. ⌜ (sortAnswer r ≡ sortRows (rowsOf lines)) × (r .rows .len ≤ lines .len) ⌝ }
 {
     let n = lines.len;
-    let mut sorted = lines;
-    sorted.len = 0;
-    let mut i: usize = 0;
-    while i < n {
+    let mut rows = lines.rows;
+    for i in 0..n {
         let x = lines.rows[i];
-        let p = place_of(sorted, x);
-        if p.same {
+        let mut search = Search {
+            low: 0,
+            at: i,
+            same: false,
+        };
+        while search.low < search.at {
+            let middle = search.middle();
+            let y = rows[middle];
+            let o = x.order(y);
+            let next = search.narrowed(middle, o);
+            search = next;
+        }
+        if search.same {
+            let sorted = Rows { rows, len: i };
             return Sorted {
                 ok: false,
                 line: i,
                 rows: sorted,
             };
         }
-        sorted = put(sorted, p, x);
-        i += 1;
+        let at = search.at;
+        let mut j = i;
+        while at < j {
+            let k = j - 1;
+            let y = rows[k];
+            rows[k + 1] = y;
+            j = k;
+        }
+        rows[at] = x;
     }
+    let sorted = Rows { rows, len: n };
     Sorted {
         ok: true,
         line: 0,

@@ -2,7 +2,7 @@
 pub mod line; // a line as a row
 pub mod normal; // the normal form of a text
 pub mod read; // a text as sorted rows
-mod store; // rows as they are read
+mod store; // rows before the first is read
 pub mod write; // rows as text
 
 pub use line::RowRead;

@@ -2,7 +2,6 @@
 use crate::line::RowRead;
 use crate::line::row_line;
 use crate::store::no_rows;
-use crate::store::push;
 use refusals::Refusal;
 use rows::Rows;
 ghost use mathlib.Core.Path.{_≡_};
@@ -45,7 +44,8 @@ fn read_rows(text: &[u8]) -> TablesRead
                 };
             }
             RowRead::Read(row) => {
-                rows = push(rows, row);
+                rows.rows[k] = row;
+                rows.len = k + 1;
             }
         }
         at = next;

@@ -1,4 +1,4 @@
-// Rows as they are read, one after the other.
+// Rows before the first is read.
 use flow::Action;
 use flow::Entry;
 use flow::Exact;
@@ -8,8 +8,7 @@ use flow::Prefix;
 use rows::Row;
 use rows::Rows;
 ghost use mathlib.Core.Path.{_≡_};
-ghost use mathlib.Core.List.{[], _∷_, _++_};
-ghost use Prim.Native.Nat.{_+_, _<_};
+ghost use mathlib.Core.List.{[]};
 ghost use Rattle.rows.specs.Rows.{rowsOf};
 
 // No rows.
@@ -39,16 +38,4 @@ pub fn no_rows() -> Rows
     let unused = Row { switch: 0, entry };
     let rows = [unused; 512];
     Rows { rows, len: 0 }
-}
-
-// One row more, at the end.
-pub fn push(t: Rows, row: Row) -> Rows
-    requires { ⌜ t .len < 512 ⌝ }
-    ensures { λ r. ⌜ (rowsOf r ≡ rowsOf t ++ (row ∷ [])) × (r .len ≡ t .len + 1) ⌝ }
-{
-    let n = t.len;
-    let mut next = t;
-    next.rows[n] = row;
-    next.len = n + 1;
-    next
 }

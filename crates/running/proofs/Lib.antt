@@ -1,4 +1,5 @@
 pub mod RunLaws
+pub mod WorkLaws
 pub mod EndTables
 pub mod AnswerLaws
 pub mod Answering

@@ -1,16 +1,16 @@
 -- Document 01, "What an order of events does", on rows: what an order leaves, and the answers, each kept under its event's number.
 use mathlib.Core.Path.{_≡_}
-use mathlib.Core.Bool.{cond}
+use mathlib.Core.Bool.{Bool, cond}
 use mathlib.Core.Option.{Option, none, some}
 use mathlib.Core.List.{List, [], _∷_}
 use Prim.Native.Nat.{ℕ, _+_, _≤_}
 use lib.Dec.{eqb}
-use lib.ListN.{length, getD, set}
+use lib.ListN.{length, getD}
 use Rattle.orders.specs.Orders.{run}
-use Rattle.rows.specs.Rows.{rowsOf}
+use Rattle.rows.specs.Rows.{rowsOf, row}
 use Rattle.rows.specs.Stepping.{stepRows, replyRows}
 use Rattle.events.specs.Events.{eventAt}
-use Rattle.running.specs.Types.{Operation, Answer, Silent, Event, Row, Rows, Kept, Ran}
+use Rattle.running.specs.Types.{TableOperation, Lookup, Add, AddChecked, ModifyStrict, Modify, DeleteStrict, Delete, Operation, Other, Barrier, Message, OnTable, Answer, Silent, Event, Row, Rows, Kept, Work, Step, Insert, Ran}
 
 -- what event i does
 abbrev pub operationAt : List Event → ℕ → Operation
@@ -44,11 +44,24 @@ noAnswer = kept Silent
 abbrev pub keptAt : List Kept → ℕ → Answer
 keptAt ks i = getD ks i noAnswer .answer
 
--- what one event more gives
-pub record TurnsTo (o : Operation) (i : ℕ) (before after : Ran) : Type 0 where
-  pub rows : rowsOf (after .rows) ≡ stepRows o (rowsOf (before .rows))
-  pub answers : after .answers ≡ set (before .answers) i (kept (replyRows o (rowsOf (before .rows))))
-  pub size : after .rows .len ≤ before .rows .len + 1
+-- how an event's rows are made: in place where it only puts a row in, and the rows are in order
+abbrev pub tableWork : ℕ → TableOperation → Work
+tableWork w (Lookup p) = Step
+tableWork w (Add e) = Insert (row w e)
+tableWork w (AddChecked e) = Step
+tableWork w (ModifyStrict e) = Insert (row w e)
+tableWork w (Modify e) = Step
+tableWork w (DeleteStrict k) = Step
+tableWork w (Delete m) = Step
+
+abbrev pub workIn : Operation → Work
+workIn Other = Step
+workIn (Barrier w) = Step
+workIn (Message w) = Step
+workIn (OnTable w o) = tableWork w o
+
+abbrev pub workOf : Bool → Operation → Work
+workOf b o = cond b (workIn o) Step
 
 -- what running an order from the starting rows gives: the rows, the answers, and at most one row more for each event
 pub record RunsTo (es : List Event) (o : List ℕ) (start : Rows) (r : Ran) : Type 0 where

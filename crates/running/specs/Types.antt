@@ -11,3 +11,5 @@ pub use Rattle.rows.specs.declared.row.Row.{Row}
 pub use Rattle.rows.specs.declared.row.Rows.{Rows}
 pub use Rattle.running.specs.declared.running.Kept.{Kept}
 pub use Rattle.running.specs.declared.running.Ran.{Ran}
+pub use Rattle.running.specs.declared.running.Work.{Work}
+pub use Rattle.running.specs.declared.running.Work.the-variants.{Step, Insert}

@@ -1,79 +1,250 @@
--- The invariant: the rest of the order does to the rows so far, and keeps beside the answers so far, what the order does from the start.
+-- The outer invariant: the rest of the order does to the rows so far, and keeps beside the answers so far, what the order does from the
+-- start. The second: the search for a row's place. The third: the rows from the place on move up, and but for the gap they stay.
 use Prim.Native.Nat.{ℕ, _+_, _<_, _≤_, _-_}
 use native.Mathlib.Omega.{arith}
-use mathlib.Core.Path.{_≡_, refl, ap, _∙_}
-use lib.ListN.{length, getD, drop, length-set}
+use mathlib.Core.Path.{_≡_, refl, sym, ap, _∙_}
+use mathlib.Core.Bool.{true}
+use lib.ListN.{length, getD, set, take, drop, length-set}
+use lib.Seq.{length-take-le, getD-take}
 use borrow.Author.Needs.{needs}
 use Rattle.events.specs.Events.{eventsOf}
 use Rattle.events.proofs.TraceLaws.{length-mapped}
-use Rattle.rows.specs.Rows.{rowsOf}
-use Rattle.running.specs.Running.{runRows, keptIn, answersIn, keptAt}
+use Rattle.rows.specs.Rows.{rowsOf, rowOrder, SortedRows}
+use Rattle.rows.specs.Stepping.{stepRows}
+use Rattle.rows.specs.Searching.{Searched}
+use Rattle.rows.proofs.Steps.{sorted-step}
+use Rattle.rows.proofs.Searches.{search-start, search-turn, search-less, search-end, without, moved-up, put-at}
+use Rattle.running.specs.Running.{operationAt, runRows, keptIn, answersIn, kept, keptAt}
 use Rattle.running.proofs.RunLaws.{operation-here, started, run-turn, kept-turn, run-done, kept-done}
+use Rattle.running.proofs.WorkLaws.{puts-in, moved-from, count-most}
 use Rattle.running.proofs.running.run.Statement.{statement}
 use Rattle.running.proofs.running.run.Tie as tie
 
+abbrev Inv-loop2 : tie.InvT-loop2
+Inv-loop2 order t n in-order answers len rows p e row search₀ p-end search = Searched row (take len rows) search
+
+abbrev μ-loop2 : tie.MeasureT-loop2
+μ-loop2 order t n in-order answers len rows p e row search₀ p-end search = search .at - search .low
+
+abbrev Inv-loop3 : tie.InvT-loop3
+Inv-loop3 order t n in-order answers len rows₀ p e row search at j₀ p-end rows j = (at ≤ j) × (j ≤ len) × (length rows ≡ 512) × (without rows len j ≡ without rows₀ len j₀)
+
+abbrev μ-loop3 : tie.MeasureT-loop3
+μ-loop3 order t n in-order answers len rows₀ p e row search at j₀ p-end rows j = j
+
 abbrev Inv-loop : tie.InvT-loop
-Inv-loop order t n ran₀ p₀ p-end ran p =
+Inv-loop order t n in-order answers₀ len₀ rows₀ p₀ p-end answers len rows p =
     (p ≤ length order)
     × (length (t .events) ≡ 256)
-    × (length (ran .answers) ≡ 256)
-    × (ran .rows .len ≤ ran₀ .rows .len + p)
-    × (runRows (eventsOf t) (drop p order) (rowsOf (ran .rows)) ≡ runRows (eventsOf t) order (rowsOf (ran₀ .rows)))
-    × ((i : ℕ) → keptIn (eventsOf t) i (drop p order) (rowsOf (ran .rows)) (keptAt (ran .answers) i) ≡ answersIn (eventsOf t) order (rowsOf (ran₀ .rows)) i)
+    × (length answers ≡ 256)
+    × (len ≤ len₀ + p)
+    × (length rows ≡ 512)
+    × (in-order ≡ true → SortedRows (take len rows))
+    × (runRows (eventsOf t) (drop p order) (take len rows) ≡ runRows (eventsOf t) order (take len₀ rows₀))
+    × ((i : ℕ) → keptIn (eventsOf t) i (drop p order) (take len rows) (keptAt answers i) ≡ answersIn (eventsOf t) order (take len₀ rows₀) i)
 
 abbrev μ-loop : tie.MeasureT-loop
-μ-loop order t n ran₀ p₀ p-end ran p = length order - p
+μ-loop order t n in-order answers₀ len₀ rows₀ p₀ p-end answers len rows p = length order - p
 
-loop-holds : tie.Need-loop-holds Inv-loop μ-loop
+loop-holds : tie.Need-loop-holds Inv-loop2 μ-loop2 Inv-loop3 μ-loop3 Inv-loop μ-loop
 loop-holds c =
-    let a = c .no-answers in
-    let s = c .before .before in
-    (omega arith, search (needs, length-mapped), a .ensures .0, omega arith, refl, λ i. started (eventsOf (s .args .t1)) i (s .args .order .now) (rowsOf (s .args .start)) (a .ensures .1 i))
-
-cast-e : tie.Need-cast-e Inv-loop μ-loop
-cast-e c = omega (arith, c .shared-slice-known2 .given (c .before .before .loop .p))
-
-mul-event : tie.Need-mul-event Inv-loop μ-loop
-mul-event c = omega (arith, c .shared-slice-known2 .given (c .before .before .loop .p))
-
-element-copy-out-event : tie.Need-element-copy-out-event Inv-loop μ-loop
-element-copy-out-event c = omega (arith, c .shared-slice-known2 .given (c .before .before .loop .p))
-
-turn-requires : tie.Need-turn-requires Inv-loop μ-loop
-turn-requires c κs = (omega arith, omega (arith, c .before .before .shared-slice-known2 .given (c .before .before .before .before .loop .p)))
-
-loop-again : tie.Need-loop-again Inv-loop μ-loop
-loop-again c =
-    let l = c .before .before .before .before .before .loop in
-    let s = c .before .before .before .before .before .before .before .before .args in
-    let o = s .order .now in
-    let here = getD o (l .p) 0 in
-    let known : here < 256 = omega (arith, c .before .before .before .shared-slice-known2 .given (l .p)) in
-    let size = l .inv .2 in
-    let more = c .turn .ensures .size in
-    let done = c .before .operation-if in
-    let same = done .ensures ∙ operation-here (s .t1) here in
-    let h = c .before .before .before .before .loop-test .taken in
-    let next = c .turn .ensures in
-    let rs = rowsOf (l .ran .rows) in
-    let xs = rowsOf (c .turn .result .rows) in (
+    let a = c .before .no-answers in
+    let s = c .before .before .before .before in
+    let size : length (s .args .start .rows) ≡ 512 = search (needs, length-mapped) in (
       omega arith,
-      l .inv .1,
-      ap length (next .answers) ∙ simp length-set size,
+      search (needs, length-mapped),
+      a .ensures .0,
       omega arith,
-      run-turn (eventsOf (s .t1)) o (l .p) h rs xs (done .result) same (next .rows) (l .inv .4),
-      λ i. kept-turn (eventsOf (s .t1)) o (l .p) h rs xs (done .result) same (next .rows) i (l .ran .answers) (c .turn .result .answers) (omega arith) (next .answers) (l .inv .5 i),
+      size,
+      c .before .before .in-order .ensures,
+      refl,
+      λ i. started (eventsOf (s .args .t1)) i (s .args .order .now) (rowsOf (s .args .start)) (a .ensures .1 i),
     )
 
-returns : tie.Need-returns Inv-loop μ-loop
+-- a byte of the order is the number of an event
+known : (a : tie.After-shared-slice-known2 Inv-loop2 μ-loop2 Inv-loop3 μ-loop3 Inv-loop μ-loop) → getD (a .before .before .before .before .before .before .before .args .order .now) (a .before .before .loop .p) 0 < 256
+known a = omega (arith, a .shared-slice-known2 .given (a .before .before .loop .p))
+
+-- there is room for a row
+room : (a : tie.In-loop Inv-loop2 μ-loop2 Inv-loop3 μ-loop3 Inv-loop μ-loop) → a .before .loop .len < 512
+room a =
+    let s = a .before .before .before .before .before .before in
+    omega (arith, s .pre .0, s .pre .1, a .loop-test .taken, a .before .loop .inv .3)
+
+-- the operation of the event
+same : (a : tie.After-operation-if Inv-loop2 μ-loop2 Inv-loop3 μ-loop3 Inv-loop μ-loop) → a .operation-if .result ≡ operationAt (eventsOf (a .before .before .before .before .before .before .before .before .before .args .t1)) (getD (a .before .before .before .before .before .before .before .before .before .args .order .now) (a .before .before .before .before .loop .p) 0)
+same a = a .operation-if .ensures ∙ operation-here (a .before .before .before .before .before .before .before .before .before .args .t1) (getD (a .before .before .before .before .before .before .before .before .before .args .order .now) (a .before .before .before .before .loop .p) 0)
+
+-- the place is at most that behind the rows
+reach : (q : tie.At-loop2 Inv-loop2 μ-loop2 Inv-loop3 μ-loop3 Inv-loop μ-loop) → q .loop2 .search .at ≤ q .before .before .before .before .before .before .before .before .before .loop .len
+reach q =
+    let l = q .before .before .before .before .before .before .before .before .before .loop in
+    omega (arith, q .loop2 .inv .within, length-take-le (l .len) (l .rows) (omega (arith, room (q .before .before .before .before .before .before .before .before), l .inv .4)))
+
+cast-e : tie.Need-cast-e Inv-loop2 μ-loop2 Inv-loop3 μ-loop3 Inv-loop μ-loop
+cast-e c = omega (arith, c .shared-slice-known2 .given (c .before .before .loop .p))
+
+mul-event : tie.Need-mul-event Inv-loop2 μ-loop2 Inv-loop3 μ-loop3 Inv-loop μ-loop
+mul-event c = omega (arith, c .shared-slice-known2 .given (c .before .before .loop .p))
+
+element-copy-out-event : tie.Need-element-copy-out-event Inv-loop2 μ-loop2 Inv-loop3 μ-loop3 Inv-loop μ-loop
+element-copy-out-event c = omega (arith, c .shared-slice-known2 .given (c .before .before .loop .p))
+
+reply-requires : tie.Need-reply-requires Inv-loop2 μ-loop2 Inv-loop3 μ-loop3 Inv-loop μ-loop
+reply-requires c κs = omega (arith, room (c .before .before .before .before .before .before))
+
+mul-answers : tie.Need-mul-answers Inv-loop2 μ-loop2 Inv-loop3 μ-loop3 Inv-loop μ-loop
+mul-answers c = omega (arith, known (c .before .before .before .before .before .before), c .before .before .before .before .before .before .before .before .loop .inv .2)
+
+array-set-from-answers : tie.Need-array-set-from-answers Inv-loop2 μ-loop2 Inv-loop3 μ-loop3 Inv-loop μ-loop
+array-set-from-answers c = omega (arith, known (c .before .before .before .before .before .before), c .before .before .before .before .before .before .before .before .loop .inv .2)
+
+step-requires : tie.Need-step-requires Inv-loop2 μ-loop2 Inv-loop3 μ-loop3 Inv-loop μ-loop
+step-requires c κs = omega (arith, room (c .before .before .before .before .before .before .before))
+
+loop-again : tie.Need-loop-again Inv-loop2 μ-loop2 Inv-loop3 μ-loop3 Inv-loop μ-loop
+loop-again c =
+    let l = c .before .before .before .before .before .before .before .before .before .before .loop in
+    let s = c .before .before .before .before .before .before .before .before .before .before .before .before .before .before .before .args in
+    let es = eventsOf (s .t1) in
+    let o = s .order .now in
+    let here = getD o (l .p) 0 in
+    let f = c .before .before .before .before .before .before .operation-if .result in
+    let h = c .before .before .before .before .before .before .before .before .before .loop-test .taken in
+    let rs = take (l .len) (l .rows) in
+    let next = c .before .step in
+    let xs = rowsOf (next .result) in
+    let size : length (next .result .rows) ≡ 512 = search (needs, length-mapped) in
+    let stepped : xs ≡ stepRows f rs = next .ensures .0 in (
+      omega arith,
+      l .inv .1,
+      simp length-set (l .inv .2),
+      omega (arith, next .ensures .1, l .inv .3),
+      size,
+      λ b. rw stepped (sorted-step f rs (l .inv .5 b)),
+      run-turn es o (l .p) h rs xs f (same (c .before .before .before .before .before .before)) stepped (l .inv .6),
+      λ i. kept-turn es o (l .p) h rs xs f (same (c .before .before .before .before .before .before)) stepped i (l .answers) _ (omega (arith, known (c .before .before .before .before .before .before .before .before), l .inv .2))
+          (ap (λ a. set (l .answers) here (kept a)) (c .before .before .reply .ensures)) (l .inv .7 i),
+    )
+
+mul-answers-2 : tie.Need-mul-answers-2 Inv-loop2 μ-loop2 Inv-loop3 μ-loop3 Inv-loop μ-loop
+mul-answers-2 c = omega (arith, known (c .before .before .before .before .before .before), c .before .before .before .before .before .before .before .before .loop .inv .2)
+
+array-set-from-answers-2 : tie.Need-array-set-from-answers-2 Inv-loop2 μ-loop2 Inv-loop3 μ-loop3 Inv-loop μ-loop
+array-set-from-answers-2 c = omega (arith, known (c .before .before .before .before .before .before), c .before .before .before .before .before .before .before .before .loop .inv .2)
+
+loop2-holds : tie.Need-loop2-holds Inv-loop2 μ-loop2 Inv-loop3 μ-loop3 Inv-loop μ-loop
+loop2-holds c =
+    let l = c .before .before .before .before .before .before .before .before .loop in
+    search-start _ _ (l .len) (length-take-le (l .len) (l .rows) (omega (arith, room (c .before .before .before .before .before .before .before), l .inv .4)))
+
+mul-x : tie.Need-mul-x Inv-loop2 μ-loop2 Inv-loop3 μ-loop3 Inv-loop μ-loop
+mul-x c = omega (arith, reach (c .before .before .before), c .middle .ensures .1, room (c .before .before .before .before .before .before .before .before .before .before .before), c .before .before .before .before .before .before .before .before .before .before .before .before .loop .inv .4)
+
+array-copy-out-x : tie.Need-array-copy-out-x Inv-loop2 μ-loop2 Inv-loop3 μ-loop3 Inv-loop μ-loop
+array-copy-out-x c = omega (arith, reach (c .before .before .before), c .middle .ensures .1, room (c .before .before .before .before .before .before .before .before .before .before .before), c .before .before .before .before .before .before .before .before .before .before .before .before .loop .inv .4)
+
+loop2-less : tie.Need-loop2-less Inv-loop2 μ-loop2 Inv-loop3 μ-loop3 Inv-loop μ-loop
+loop2-less c =
+    let mid = c .before .before .before .middle in
+    search-less (c .before .before .before .before .before .before .loop2 .search) (mid .result) (mid .ensures .0) (mid .ensures .1) (c .before .order .result) (c .narrowed .result) (c .narrowed .ensures)
+
+loop2-again : tie.Need-loop2-again Inv-loop2 μ-loop2 Inv-loop3 μ-loop3 Inv-loop μ-loop
+loop2-again c =
+    let mid = c .before .before .before .middle in
+    let q = c .before .before .before .before .before .before in
+    let l = q .before .before .before .before .before .before .before .before .before .loop in
+    let row = c .before .before .before .before .before .before .before .before .work .given .0 .0 in
+    let in-place = puts-in (c .before .before .before .before .before .before .before .before .before .before .before .before .before .before .before .before .before .before .in-order .result) (c .before .before .before .before .before .before .before .before .before .before .before .operation-if .result) row (sym (c .before .before .before .before .before .before .before .before .before .before .work-of .ensures) ∙ c .before .before .before .before .before .before .before .before .work .given .1) in
+    let under : mid .result < l .len = omega (arith, reach q, mid .ensures .1) in
+    search-turn _ _ (q .loop2 .search) (mid .result) (mid .ensures .0) (mid .ensures .1) _ (l .inv .5 (in-place .0)) _
+    (ap (rowOrder _) (getD-take (l .len) (l .rows) (mid .result) _ under) ∙ sym (c .before .order .ensures)) (q .loop2 .inv) _ (c .narrowed .ensures)
+
+loop3-holds : tie.Need-loop3-holds Inv-loop2 μ-loop2 Inv-loop3 μ-loop3 Inv-loop μ-loop
+loop3-holds c =
+    let q = c .before .before .before in
+    let l = q .before .before .before .before .before .before .before .before .before .loop in
+    let from = moved-from (q .loop2 .search .same) (q .loop2 .search .at) (l .len) (reach q) in
+    (omega (arith, from .0, c .moves-to .ensures), omega (arith, from .1, c .moves-to .ensures), l .inv .4, refl)
+
+mul-x-2 : tie.Need-mul-x-2 Inv-loop2 μ-loop2 Inv-loop3 μ-loop3 Inv-loop μ-loop
+mul-x-2 c = omega (arith, c .loop3-test .taken, c .before .loop3 .inv .1, c .before .loop3 .inv .2, room (c .before .before .before .before .before .before .before .before .before .before .before .before .before))
+
+array-copy-out-x-2 : tie.Need-array-copy-out-x-2 Inv-loop2 μ-loop2 Inv-loop3 μ-loop3 Inv-loop μ-loop
+array-copy-out-x-2 c = omega (arith, c .loop3-test .taken, c .before .loop3 .inv .1, c .before .loop3 .inv .2, room (c .before .before .before .before .before .before .before .before .before .before .before .before .before))
+
+add-rows : tie.Need-add-rows Inv-loop2 μ-loop2 Inv-loop3 μ-loop3 Inv-loop μ-loop
+add-rows c = omega (arith, c .before .loop3-test .taken, c .before .before .loop3 .inv .1, c .before .before .loop3 .inv .2, room (c .before .before .before .before .before .before .before .before .before .before .before .before .before .before))
+
+mul-rows : tie.Need-mul-rows Inv-loop2 μ-loop2 Inv-loop3 μ-loop3 Inv-loop μ-loop
+mul-rows c = omega (arith, c .before .loop3-test .taken, c .before .before .loop3 .inv .1, c .before .before .loop3 .inv .2, room (c .before .before .before .before .before .before .before .before .before .before .before .before .before .before))
+
+array-set-from-rows : tie.Need-array-set-from-rows Inv-loop2 μ-loop2 Inv-loop3 μ-loop3 Inv-loop μ-loop
+array-set-from-rows c = omega (arith, c .before .loop3-test .taken, c .before .before .loop3 .inv .1, c .before .before .loop3 .inv .2, room (c .before .before .before .before .before .before .before .before .before .before .before .before .before .before))
+
+mul-rows-2 : tie.Need-mul-rows-2 Inv-loop2 μ-loop2 Inv-loop3 μ-loop3 Inv-loop μ-loop
+mul-rows-2 c = omega (arith, c .loop3-test .left, c .before .loop3 .inv .0, c .before .loop3 .inv .1, c .before .loop3 .inv .2, room (c .before .before .before .before .before .before .before .before .before .before .before .before .before))
+
+array-set-from-rows-2 : tie.Need-array-set-from-rows-2 Inv-loop2 μ-loop2 Inv-loop3 μ-loop3 Inv-loop μ-loop
+array-set-from-rows-2 c = omega (arith, c .loop3-test .left, c .before .loop3 .inv .0, c .before .loop3 .inv .1, c .before .loop3 .inv .2, room (c .before .before .before .before .before .before .before .before .before .before .before .before .before))
+
+loop3-again : tie.Need-loop3-again Inv-loop2 μ-loop2 Inv-loop3 μ-loop3 Inv-loop μ-loop
+loop3-again c =
+    let m = c .before .before .loop3 in
+    let l = c .before .before .before .before .before .before .before .before .before .before .before .before .before .before .before .loop in
+    let e : m .j - 1 + 1 ≡ m .j = omega (arith, c .before .loop3-test .taken) in (
+      omega (arith, c .before .loop3-test .taken),
+      omega (arith, m .inv .1),
+      simp length-set (m .inv .2),
+      moved-up (m .rows) (l .len) (m .j - 1) _ (omega (arith, m .inv .1, c .before .loop3-test .taken)) (omega (arith, m .inv .2, room (c .before .before .before .before .before .before .before .before .before .before .before .before .before .before))) ∙ ap (without (m .rows) (l .len)) e ∙ m .inv .3,
+    )
+
+count-with-requires : tie.Need-count-with-requires Inv-loop2 μ-loop2 Inv-loop3 μ-loop3 Inv-loop μ-loop
+count-with-requires c κs = omega (arith, room (c .before .before .before .before .before .before .before .before .before .before .before .before .before))
+
+loop-again-2 : tie.Need-loop-again-2 Inv-loop2 μ-loop2 Inv-loop3 μ-loop3 Inv-loop μ-loop
+loop-again-2 c =
+    let m = c .before .before .loop3 in
+    let q = c .before .before .before .before .before .before in
+    let at = q .loop2 .search .at in
+    let l = c .before .before .before .before .before .before .before .before .before .before .before .before .before .before .before .loop in
+    let s = c .before .before .before .before .before .before .before .before .before .before .before .before .before .before .before .before .before .before .before .before .args in
+    let es = eventsOf (s .t1) in
+    let o = s .order .now in
+    let here = getD o (l .p) 0 in
+    let f = c .before .before .before .before .before .before .before .before .before .before .before .operation-if .result in
+    let h = c .before .before .before .before .before .before .before .before .before .before .before .before .before .before .loop-test .taken in
+    let rs = take (l .len) (l .rows) in
+    let row = c .before .before .before .before .before .before .before .before .work .given .0 .0 in
+    let in-place = puts-in (c .before .before .before .before .before .before .before .before .before .before .before .before .before .before .before .before .before .before .in-order .result) f row (sym (c .before .before .before .before .before .before .before .before .before .before .work-of .ensures) ∙ c .before .before .before .before .before .before .before .before .work .given .1) in
+    let xs = take (c .count-with .result) (set (m .rows) at row) in
+    let end : at ≡ m .j = omega (arith, m .inv .0, c .before .loop3-test .left) in
+    let stepped : xs ≡ stepRows f rs =
+    ap (λ k. take k (set (m .rows) at row)) (c .count-with .ensures)
+    ∙ put-at row (l .rows) (l .len) at (omega (arith, room (c .before .before .before .before .before .before .before .before .before .before .before .before .before .before), l .inv .4)) (m .rows) (omega (arith, room (c .before .before .before .before .before .before .before .before .before .before .before .before .before .before), m .inv .2)) (q .loop2 .search .same)
+    (search-end row rs (q .loop2 .search) (c .before .before .before .before .if1 .left) (q .loop2 .inv))
+    (ap (without (m .rows) (l .len)) end ∙ m .inv .3 ∙ ap (without (l .rows) (l .len)) (c .before .before .before .moves-to .ensures))
+    ∙ in-place .1 rs in (
+      omega arith,
+      l .inv .1,
+      simp length-set (l .inv .2),
+      omega (arith, c .count-with .ensures, count-most (q .loop2 .search .same) (l .len), l .inv .3),
+      simp length-set (m .inv .2),
+      λ b. rw stepped (sorted-step f rs (l .inv .5 b)),
+      run-turn es o (l .p) h rs xs f (same (c .before .before .before .before .before .before .before .before .before .before .before)) stepped (l .inv .6),
+      λ i. kept-turn es o (l .p) h rs xs f (same (c .before .before .before .before .before .before .before .before .before .before .before)) stepped i (l .answers) _ (omega (arith, known (c .before .before .before .before .before .before .before .before .before .before .before .before .before), l .inv .2))
+          (ap (λ a. set (l .answers) here (kept a)) (in-place .2 rs)) (l .inv .7 i),
+    )
+
+returns : tie.Need-returns Inv-loop2 μ-loop2 Inv-loop3 μ-loop3 Inv-loop μ-loop
 returns c =
     let l = c .before .loop in
-    let s = c .before .before .before .before .args in
+    let s = c .before .before .before .before .before .before .args in
     let o = s .order .now in
     let h = c .loop-test .left in
     record {
-      rows = run-done (eventsOf (s .t1)) o (l .p) h (l .inv .4);
-      answers = λ i. kept-done (eventsOf (s .t1)) o (l .p) i (rowsOf (l .ran .rows)) h (l .inv .5 i);
+      rows = run-done (eventsOf (s .t1)) o (l .p) h (l .inv .6);
+      answers = λ i. kept-done (eventsOf (s .t1)) o (l .p) i (take (l .len) (l .rows)) h (l .inv .7 i);
       size = omega arith;
     }
 
@@ -81,12 +252,37 @@ pub run-spec : {M : Type 1} → statement M
 run-spec =
     tie.close
     (tie.spec
+    Inv-loop2
+    μ-loop2
+    Inv-loop3
+    μ-loop3
     Inv-loop
-    μ-loop (λ c κs. search needs)
+    μ-loop (λ c κs. omega arith) (λ c κs. search needs)
     loop-holds (λ c. omega arith)
     cast-e
     mul-event
-    element-copy-out-event (λ c κs. search needs)
-    turn-requires (λ c. omega arith) (λ c. omega arith)
+    element-copy-out-event (λ c κs. search needs) (λ c κs. search needs) (λ c. search needs) (λ c. search needs)
+    reply-requires
+    mul-answers
+    array-set-from-answers
+    step-requires (λ c. omega arith) (λ c. omega arith)
     loop-again
+    mul-answers-2
+    array-set-from-answers-2
+    loop2-holds (λ c κs. search needs)
+    mul-x
+    array-copy-out-x (λ c κs. search needs) (λ c κs. c .before .before .middle .ensures .1)
+    loop2-less
+    loop2-again (λ c κs. search needs)
+    loop3-holds (λ c. omega arith)
+    mul-x-2
+    array-copy-out-x-2
+    add-rows
+    mul-rows
+    array-set-from-rows (λ c. omega arith)
+    loop3-again
+    mul-rows-2
+    array-set-from-rows-2
+    count-with-requires (λ c. omega arith) (λ c. omega arith)
+    loop-again-2
     returns)

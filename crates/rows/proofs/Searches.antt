@@ -63,6 +63,21 @@ in-order-under [] (suc n) i h s = tt
 in-order-under (x ∷ xs) (suc n) zero h s = absurd (omega arith)
 in-order-under (x ∷ xs) (suc n) (suc i) h s = (before-under x xs n i (omega arith) (s .0), in-order-under xs n i (omega arith) (s .1))
 
+-- of rows in order each is less than the next; so rows of which one is not are not in order
+sorted-next : (l : List Row) (i : ℕ) (d : Row) → suc i < length l → SortedRows l → rowOrder (getD l i d) (getD l (suc i) d) ≡ Less
+sorted-next [] i d h s = absurd (omega arith)
+sorted-next (x ∷ xs) zero d h s = before-at x xs 0 d (s .0) (omega arith)
+sorted-next (x ∷ xs) (suc i) d h s = sorted-next xs i d (omega arith) (s .1)
+
+pub in-order-not : (l : List Row) (n i : ℕ) (d : Row) (b : Bool) → 0 < i → i < n → n ≤ length l → b ≡ isLess (rowOrder (getD l (i - 1) d) (getD l i d)) → not b ≡ true
+    → SortedRows (take n l) → false ≡ true
+in-order-not l n i d true z h m e f s = f
+in-order-not l n zero d false z h m e f s = absurd (omega arith)
+in-order-not l n (suc j) d false z h m e f s =
+    let p : rowOrder (getD (take n l) j d) (getD (take n l) (suc j) d) ≡ Less = sorted-next (take n l) j d (omega (arith, length-take-le n l m)) s in
+    let q : suc j - 1 ≡ j = omega arith in
+    e ∙ rw q (ap isLess (rw (getD-take n l j d (omega arith), getD-take n l (suc j) d h) at p))
+
 -- a row that is greater than the one at m goes past it and all before it
 past-at : (a : Row) (rs : List Row) (m : ℕ) (d : Row) → SortedRows rs → m < length rs → rowOrder a (getD rs m d) ≡ Greater
     → (insertRow a rs ≡ take (suc m) rs ++ insertRow a (drop (suc m) rs)) × (found a rs ≡ found a (drop (suc m) rs))

@@ -5,6 +5,7 @@ use flow::Entry;
 use flow::Ordering;
 ghost use mathlib.Core.Path.{_≡_};
 ghost use mathlib.Core.Bool.{true};
+ghost use mathlib.Core.Logic.{_↔_};
 ghost use Prim.Native.Nat.{_≤_};
 ghost use Rattle.rows.specs.Rows.{rowsOf, rowOrder, isLess, SortedRows, onSwitch, passes, assignRow};
 
@@ -23,7 +24,7 @@ impl Rows {
     // Each row is less than the next.
     pub fn in_order(self) -> bool
         requires { ⌜ self .len ≤ 512 ⌝ }
-        ensures { λ r. ⌜ (r ≡ true → SortedRows (rowsOf self)) ⌝ }
+        ensures { λ r. ⌜ ((r ≡ true) ↔ SortedRows (rowsOf self)) ⌝ }
     {
         let n = self.len;
         for i in 1..n {

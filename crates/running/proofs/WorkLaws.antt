@@ -1,12 +1,12 @@
 -- An event that only puts a row in: what it leaves and answers. Assumes nothing.
-use mathlib.Core.Path.{_≡_, refl, sym, ap, _∙_}
+use mathlib.Core.Path.{_≡_, refl, ap}
 use mathlib.Core.Bool.{Bool, true, false, not, cond, true≢false, false≢true}
 use mathlib.Core.List.{List}
 use Prim.Native.Nat.{ℕ, _+_, _≤_}
 use native.Mathlib.Omega.{arith}
 use Rattle.rows.specs.Rows.{row, insertRow}
 use Rattle.rows.specs.Stepping.{tableStep, stepRows, tableReply, replyRows}
-use Rattle.running.specs.Types.{TableOperation, Lookup, Add, AddChecked, ModifyStrict, Modify, DeleteStrict, Delete, Operation, Other, Barrier, Message, OnTable, Answer, Silent, Row, Work, Step, Insert}
+use Rattle.running.specs.Types.{TableOperation, Lookup, Add, AddChecked, ModifyStrict, Modify, DeleteStrict, Delete, Operation, Other, Barrier, Message, OnTable, Silent, Row, Work, Step, Insert}
 use Rattle.running.specs.Running.{workIn, workOf}
 
 pub work-off : (b : Bool) (o : Operation) → not b ≡ true → Step ≡ workOf b o

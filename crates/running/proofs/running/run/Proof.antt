@@ -56,7 +56,7 @@ loop-holds c =
       a .ensures .0,
       omega arith,
       size,
-      c .before .before .in-order .ensures,
+      c .before .before .in-order .ensures .0,
       refl,
       λ i. started (eventsOf (s .args .t1)) i (s .args .order .now) (rowsOf (s .args .start)) (a .ensures .1 i),
     )

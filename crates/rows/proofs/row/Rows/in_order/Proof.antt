@@ -1,5 +1,5 @@
 -- The invariant: the first i rows are in order.
-use mathlib.Core.Path.{_≡_}
+use mathlib.Core.Path.{_≡_, refl}
 use mathlib.Core.Bool.{false≢true}
 use Prim.Native.Nat.{_-_, _≤_, _<_}
 use native.Mathlib.Omega.{arith}
@@ -7,7 +7,7 @@ use lib.ListN.{take, length}
 use borrow.Author.Needs.{needs}
 use Rattle.rows.specs.Rows.{SortedRows}
 use Rattle.rows.proofs.Pass.{length-mapped}
-use Rattle.rows.proofs.Searches.{in-order-one, in-order-next, in-order-under}
+use Rattle.rows.proofs.Searches.{in-order-one, in-order-next, in-order-under, in-order-not}
 use Rattle.rows.proofs.row.Rows.in_order.Statement.{statement}
 use Rattle.rows.proofs.row.Rows.in_order.Tie as tie
 
@@ -21,7 +21,10 @@ loop-holds : tie.Need-loop-holds Inv-loop μ-loop
 loop-holds c = (omega arith, c .pre, search (needs, length-mapped, c .good .0), in-order-one (c .args .t1 .rows))
 
 returns : tie.Need-returns Inv-loop μ-loop
-returns c = λ e. absurd (false≢true e)
+returns c =
+    let m = c .before .before .before .before .before .loop in
+    let t = c .before .before .before .before .before .before .args .t1 in
+    (λ e. absurd (false≢true e), in-order-not (t .rows) (t .len) (m .i) _ _ (m .inv .0) (omega arith) (omega arith) (c .before .is-less .ensures) (c .if1 .taken))
 
 loop-again : tie.Need-loop-again Inv-loop μ-loop
 loop-again c =
@@ -33,7 +36,7 @@ loop-again c =
     )
 
 returns-2 : tie.Need-returns-2 Inv-loop μ-loop
-returns-2 c = λ e. in-order-under (c .before .before .args .t1 .rows) _ _ (c .loop-test .left) (c .before .loop .inv .3)
+returns-2 c = (λ e. in-order-under (c .before .before .args .t1 .rows) _ _ (c .loop-test .left) (c .before .loop .inv .3), λ s. refl)
 
 pub in-order-spec : {M : Type 1} → statement M
 in-order-spec =

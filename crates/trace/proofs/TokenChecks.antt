@@ -1,13 +1,13 @@
 -- The searches for tokens put out twice or taken in too early, turn by turn.
 use Prim.Native.Nat.{ℕ, zero, suc, _+_, _-_, _≤_, _<_}
-use mathlib.Core.Bool.{Bool, true, false, _||_}
-use mathlib.Core.List.{List}
+use mathlib.Core.Bool.{Bool, true, false, _&&_, _||_}
+use mathlib.Core.List.{List, []}
 use mathlib.Core.Option.{none, some}
 use mathlib.Core.Path.{_≡_, refl, sym, _∙_, ap}
 use native.Mathlib.Numerals.{add-one}
 use native.Mathlib.Omega.{arith}
 use borrow.Author.Tests.{le-leb, lt-leb, eqb-true, eqb-false}
-use lib.Dec.{eqb}
+use lib.Dec.{eqb, leb}
 use lib.ListN.{length, getD, set}
 use lib.Seq.{getD-set-same, getD-set-other}
 use Rattle.events.specs.Events.{tokensOf, shares, eventsOf, eventAt, noEvent, noTokens}
@@ -17,6 +17,10 @@ use Rattle.trace.specs.Search.{anyBelow, lowestFrom}
 use Rattle.trace.specs.TraceText.{outsAt, putsOut, twice, tooEarly}
 
 -- ---- some line puts out one of the tokens
+and-false : (b : Bool) → (b && false) ≡ false
+and-false true = refl
+and-false false = refl
+
 any-none : (p : ℕ → Bool) (n : ℕ) → ((k : ℕ) → k < n → p k ≡ false) → false ≡ anyBelow p n
 unfolding anyBelow
 any-none p zero h = refl
@@ -36,6 +40,15 @@ module _ (outs : ℕ → List ℕ) (tokens : List ℕ) (from : ℕ) where
   unfolding putsOut anyBelow
   puts-same others zero h = refl
   puts-same others (suc n) h = rw (puts-same others n (λ k l. h k (omega arith)), h n (omega arith)) refl
+
+-- no line puts out one of no tokens
+no-tokens : (t : Tokens) → t .count ≡ 0 → tokensOf t ≡ []
+unfolding tokensOf
+no-tokens t e = rw e
+
+pub puts-nothing : (outs : ℕ → List ℕ) (t : Tokens) (from to : ℕ) → t .count ≡ 0 → false ≡ putsOut outs (tokensOf t) from to
+unfolding putsOut shares
+puts-nothing outs t from to e = any-none _ to (λ k l. rw (no-tokens t e) (and-false (leb from k)))
 
 -- ---- the tests of a line, where an array has what each line puts out
 module _ (t : Trace) (all : List Tokens) (same : (k : ℕ) → k < t .len → getD all k noTokens ≡ eventAt (eventsOf t) k .outs) where

@@ -43,6 +43,9 @@ fn puts_out(all: [Tokens; 256], tokens: Tokens, from: usize, to: usize) -> bool
     requires { ⌜ (from ≤ to) × (to ≤ 256) ⌝ }
     ensures { λ r. ⌜ r ≡ putsOut (λ k. tokensOf (getD all k noTokens)) (tokensOf tokens) from to ⌝ }
 {
+    if tokens.count == 0 {
+        return false;
+    }
     let mut found = false;
     for k in from..to {
         let outs = all[k];

@@ -7,7 +7,7 @@ use borrow.Author.Needs.{needs}
 use Rattle.events.specs.Events.{tokensOf, noTokens}
 use Rattle.events.proofs.TraceLaws.{length-mapped}
 use Rattle.trace.specs.TraceText.{putsOut}
-use Rattle.trace.proofs.TokenChecks.{puts-none, puts-more}
+use Rattle.trace.proofs.TokenChecks.{puts-nothing, puts-none, puts-more}
 use Rattle.trace.proofs.tokens.puts_out.Statement.{statement}
 use Rattle.trace.proofs.tokens.puts_out.Tie as tie
 
@@ -18,6 +18,9 @@ Inv-loop tokens from to all found₀ k₀ found k =
 abbrev μ-loop : tie.MeasureT-loop
 μ-loop tokens from to all found₀ k₀ found k = to - k
 
+returns : tie.Need-returns Inv-loop μ-loop
+returns c = puts-nothing _ (c .before .before .args .tokens) _ _ (c .if1 .taken)
+
 loop-holds : tie.Need-loop-holds Inv-loop μ-loop
 loop-holds c = (omega arith, omega arith, search (needs, length-mapped), puts-none _ _ _)
 
@@ -26,10 +29,10 @@ loop-again c =
     let l = c .before .before .before in
     (omega arith, omega arith, l .loop .inv .2, puts-more _ _ _ _ (l .loop .inv .0) (l .loop .inv .3) (c .shares .ensures))
 
-returns : tie.Need-returns Inv-loop μ-loop
-returns c =
+returns-2 : tie.Need-returns-2 Inv-loop μ-loop
+returns-2 c =
     let l = c .before .loop .inv in
-    let done : c .before .loop .k ≡ c .before .before .args .to = omega arith in
+    let done : c .before .loop .k ≡ c .before .before .before .before .args .to = omega arith in
     l .3 ∙ ap (putsOut _ _ _) done
 
 pub puts-out-spec : {M : Type 1} → statement M
@@ -38,6 +41,7 @@ puts-out-spec =
     (tie.spec
     Inv-loop
     μ-loop
+    returns
     loop-holds (λ c. omega arith) (λ c. omega arith) (λ c κs. search needs) (λ c. omega arith) (λ c. omega arith)
     loop-again
-    returns)
+    returns-2)

@@ -1,9 +1,9 @@
--- What `racelist` prints of an accepted trace (`report-lists`), and which pairs those are (`listed-exactly`). Assumes nothing.
+-- Which pairs the list of an accepted trace has. Assumes nothing.
 use Prim.Native.Nat.{ℕ, zero, suc, _<_}
 use native.Mathlib.Omega.{arith}
-use mathlib.Core.Path.{_≡_, ap}
-use mathlib.Core.List.{List, [], _∷_, _++_, List·Memᴰ}
-use mathlib.Core.Logic.{_↔_, inl, inr}
+use mathlib.Core.Path.{_≡_}
+use mathlib.Core.List.{List, [], _∷_, List·Memᴰ}
+use mathlib.Core.Logic.{_↔_, inr}
 use lib.ListN.{length}
 use Rattle.events.specs.Events.{eventAt}
 use Rattle.eventline.specs.Written.{EventInRange}
@@ -11,15 +11,10 @@ use Rattle.eventline.proofs.EventRanges.{event-range}
 use Rattle.trace.specs.TraceText.{readTrace}
 use Rattle.trace.specs.Meaning.{AllWritten}
 use Rattle.trace.proofs.Accepted.{accepted-iff}
-use Rattle.pairs.specs.List.{listOf, pairBytes, countsOf}
+use Rattle.pairs.specs.List.{listOf}
 use Rattle.pairs.specs.Racing.{Racing, EventsInRange}
 use Rattle.pairs.proofs.Theorems.{listed-iff}
-use Rattle.races.specs.Types.{Event, Refusal}
-use Rattle.races.specs.Report.{raceLines, countsLine, listText, textOf, reportText}
-use Rattle.diagnostics.specs.Report.{shown, refusedText}
-use Rattle.diagnostics.proofs.Laws.{shown-small}
-use Rattle.refusals.specs.Refusals.{placeOf}
-use Rattle.races.proofs.Refused.{refused-place}
+use Rattle.races.specs.Types.{Event}
 
 event-in-range : (es : List Event) → AllWritten es → (k : ℕ) → k < length es → EventInRange (eventAt es k)
 event-in-range [] w k l = absurd (omega arith)
@@ -33,16 +28,3 @@ accepted-in-range s es h k l = event-in-range es (accepted-iff s es .0 h .writte
 -- THE list of an accepted trace text: events i and j stand in it exactly if they race
 pub listed-exactly : (s : List ℕ) (es : List Event) → readTrace s ≡ inr es → (i j : ℕ) → List·Memᴰ (record { lower = i; higher = j }) (listOf es) ↔ Racing es i j
 listed-exactly s es h i j = listed-iff es (accepted-in-range s es h) i j
-
--- of an accepted trace a race line for each pair of that list, in its order, and the counts line; of any other the refusal
-pub report-lists : (s : List ℕ) (es : List Event) → readTrace s ≡ inr es → reportText s ≡ raceLines (pairBytes (listOf es)) ++ countsLine (countsOf es)
-unfolding reportText listText
-report-lists s es h = ap (textOf s) h
-
-pub report-refuses : (s : List ℕ) (r : Refusal) → readTrace s ≡ inl r → reportText s ≡ refusedText s [] r
-unfolding reportText
-report-refuses s r h = ap (textOf s) h
-
--- the place of a refused trace is printed as it is
-pub report-place : (s : List ℕ) (r : Refusal) → readTrace s ≡ inl r → placeOf r ≡ shown (placeOf r)
-report-place s r h = shown-small (placeOf r) (omega (arith, refused-place s r h))

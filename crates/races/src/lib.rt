@@ -1,8 +1,6 @@
-// The list of a trace: the call, and what is printed of its answer.
+// The list of a trace: the public call.
 pub mod answer;
 pub mod listing;
-pub mod printing;
 
 pub use answer::ListAnswer;
 pub use listing::list_races;
-pub use printing::report;

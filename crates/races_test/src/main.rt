@@ -7,7 +7,7 @@ const CASES: u8 = 69;
 
 fn print_report(trace: &[u8]) {
     let mut out = [0u8; 425000];
-    let n = races::report(trace, &mut out);
+    let n = report::report(trace, &mut out);
     io::write_all(STDOUT_FILENO, lines::front(&out, n));
 }
 

@@ -1,9 +1,9 @@
 use native.Mathlib.Omega.{arith}
 use Rattle.digits.proofs.Writing.{put-then, put-one}
-use Rattle.races.specs.Report.{countsLine}
+use Rattle.report.specs.Report.{countsLine}
 use borrow.Author.Needs.{needs}
-use Rattle.races.proofs.printing.put_counts.Statement.{statement}
-use Rattle.races.proofs.printing.put_counts.Tie as tie
+use Rattle.report.proofs.printing.put_counts.Statement.{statement}
+use Rattle.report.proofs.printing.put_counts.Tie as tie
 
 add-result : tie.Need-add-result
 add-result c = omega (arith, c .before .before .before .before .before .before .put-item4 .ensures .1, c .before .before .before .before .before .before .before .before .before .before .before .before .put-item3 .ensures .1, c .before .before .before .before .before .before .before .before .before .before .before .before .before .before .before .before .before .before .put-item2 .ensures .1, c .before .before .before .before .before .before .before .before .before .before .before .before .before .before .before .before .before .before .before .before .before .before .before .before .put-item .ensures .1, c .before .before .before .before .before .before .before .before .before .before .before .before .before .before .before .before .before .before .before .before .before .before .before .before .before .before .before .before .before .pre)

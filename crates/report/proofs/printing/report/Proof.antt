@@ -7,10 +7,10 @@ use lib.ListN.{replicate, length-replicate}
 use lib.Seq.{length-take-le}
 use Rattle.digits.proofs.Writing.{put-then}
 use Rattle.trace.specs.TraceText.{readTrace}
-use Rattle.races.proofs.Answered.{Listing, call-counts, call-refusal, counts-put, refused-put}
+use Rattle.report.proofs.Answered.{Listing, call-counts, call-refusal, counts-put, refused-put}
 use borrow.Author.Needs.{needs}
-use Rattle.races.proofs.printing.report.Statement.{statement}
-use Rattle.races.proofs.printing.report.Tie as tie
+use Rattle.report.proofs.printing.report.Statement.{statement}
+use Rattle.report.proofs.printing.report.Tie as tie
 
 -- what the call left, where it counts
 listing : (c : tie.After-struct-known) → Listing (c .before .before .before .before .before .before .before .before .before .args .trace .now) (c .before .before .before .before .before .list-races .last .1 .0) (c .before .before .answer .given .0 .0)

@@ -1,14 +1,14 @@
 // What `racelist` prints, put into a buffer.
-use crate::answer::ListAnswer;
-use crate::listing::list_races;
 use diagnostics::put_item;
 use digits::put_byte;
 use pairs::Counts;
+use races::ListAnswer;
+use races::list_races;
 ghost use Prim.Native.Nat.{_+_, _≤_, _<_, _^_};
 ghost use lib.ListN.{length};
 ghost use Rattle.digits.specs.Print.{Put};
 ghost use Rattle.pairs.specs.Counting.{Small};
-ghost use Rattle.races.specs.Report.{raceLine, raceLines, countsLine, reportText};
+ghost use Rattle.report.specs.Report.{raceLine, raceLines, countsLine, reportText};
 
 // `race=3,4`
 fn put_race(out: &mut [u8], at: usize, i: u8, j: u8) -> usize

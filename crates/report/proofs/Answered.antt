@@ -17,12 +17,13 @@ use Rattle.pairs.specs.Counting.{Small}
 use Rattle.pairs.proofs.PairLaws.{bytes-length}
 use Rattle.trace.specs.TraceText.{readTrace}
 use Rattle.trace.proofs.Accepted.{accepted-iff}
-use Rattle.races.specs.Types.{Event, Counts, Refusal, ListAnswer, Counted, Refused}
+use Rattle.report.specs.Types.{Event, Counts, Refusal, ListAnswer, Counted, Refused}
 use Rattle.races.specs.Races.{answerFor, bufferAfter, answerTo, bufferOf, listAnswer, listBuffer}
-use Rattle.races.specs.Report.{raceLines, countsLine, reportText}
+use Rattle.report.specs.Report.{raceLines, countsLine, reportText}
 use Rattle.races.proofs.ListLaws.{listed-is}
-use Rattle.races.proofs.Sizes.{count-most, counts-small, report-length}
-use Rattle.races.proofs.Theorems.{report-lists, report-refuses}
+use Rattle.races.proofs.Sizes.{count-most}
+use Rattle.report.proofs.Sizes.{counts-small, report-length}
+use Rattle.report.proofs.Theorems.{report-lists, report-refuses}
 
 -- an accepted trace, its counts, and a buffer that begins with its list
 pub record Listing (s list : List ℕ) (c : Counts) : Type 0 where

@@ -7,7 +7,7 @@ use lib.ListN.{length, drop, getD, length-drop}
 use lib.Seq.{drop-cons}
 use Rattle.digits.specs.Print.{Put}
 use Rattle.digits.proofs.Writing.{put-then}
-use Rattle.races.specs.Report.{raceLine, raceLines}
+use Rattle.report.specs.Report.{raceLine, raceLines}
 
 -- the pair at place i of a list, and the rest
 next-pair : (list : List ℕ) (i : ℕ) → i + 1 < length list → raceLines (drop i list) ≡ raceLine (getD list i 0) (getD list (i + 1) 0) ++ raceLines (drop (i + 2) list)

@@ -1,9 +1,9 @@
 use native.Mathlib.Omega.{arith}
 use Rattle.digits.proofs.Writing.{put-then, put-one}
-use Rattle.races.specs.Report.{raceLine}
+use Rattle.report.specs.Report.{raceLine}
 use borrow.Author.Needs.{needs}
-use Rattle.races.proofs.printing.put_race.Statement.{statement}
-use Rattle.races.proofs.printing.put_race.Tie as tie
+use Rattle.report.proofs.printing.put_race.Statement.{statement}
+use Rattle.report.proofs.printing.put_race.Tie as tie
 
 returns : tie.Need-returns
 unfolding raceLine

@@ -15,7 +15,7 @@ use Rattle.eventline.specs.EventLine.{clearEvent, readLine, onLine, readEvent}
 use Rattle.trace.specs.Search.{lowest}
 use Rattle.trace.specs.TraceText.{twice, tooEarly, refusedAt, checkTokens, onEvent, onEvents, readLines, readTrace}
 use Rattle.trace.proofs.Accepted.{token-twice-line, token-early-line}
-use Rattle.races.specs.Types.{Event, Refusal, TokenTwice, TokenTooEarly, Source, Neither, InTrace, InTables}
+use Rattle.report.specs.Types.{Event, Refusal, TokenTwice, TokenTooEarly, Source, Neither, InTrace, InTables}
 use Rattle.diagnostics.specs.Report.{lineText}
 
 same-refusal : {A : Type 0} {q r : Refusal} → _≡_ {A = Refusal ⊎ A} (inl q) (inl r) → q ≡ r

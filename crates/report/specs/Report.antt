@@ -5,7 +5,7 @@ use Prim.Native.Nat.{ℕ}
 use Rattle.diagnostics.specs.Report.{item, refusedText}
 use Rattle.pairs.specs.List.{listOf, pairBytes, countsOf}
 use Rattle.trace.specs.TraceText.{readTrace}
-use Rattle.races.specs.Types.{Event, Counts, Refusal}
+use Rattle.report.specs.Types.{Event, Counts, Refusal}
 
 -- `race=3,4`
 unfoldable pub raceLine : ℕ → ℕ → List ℕ

@@ -1,0 +1,5 @@
+pub mod Refused
+pub mod ReportLaws
+pub mod Sizes
+pub mod Theorems
+pub mod Answered

@@ -1,0 +1,4 @@
+// What `racelist` prints of a trace.
+pub mod printing;
+
+pub use printing::report;

@@ -4,7 +4,7 @@ use libc::STDOUT_FILENO;
 
 // What is printed takes at most 425,000 bytes, and goes out with one write.
 fn answer(trace: &[u8]) {
-    let mut out = [0u8; 425000];
+    let mut out = report::room();
     let n = report::report(trace, &mut out);
     if !io::write_all(STDOUT_FILENO, &out[..n]) {
         os::fail(b"standard output");

@@ -7,13 +7,14 @@ use mathlib.Core.List.{List, _++_}
 use mathlib.Core.Logic.{_⊎_, inl, inr}
 use lib.Dec.{ltb}
 use lib.ListN.{length, length-take, take, drop}
-use lib.Seq.{sets, sets-eq, take-at, take-all}
+use lib.Seq.{sets, sets-eq, length-sets, take-at, take-all}
 use borrow.Author.Tests.{lt-ltb, le-ltb}
 use Rattle.events.specs.Events.{eventsOf}
 use Rattle.trace.specs.TraceText.{readTrace, asOutcome, asTrace}
 use Rattle.pairs.specs.List.{listed, listOf, count, pairBytes, needed, countsOf}
 use Rattle.pairs.proofs.PairLaws.{bytes-length}
 use Rattle.races.specs.Types.{Event, Trace, Counts, Refusal, ListAnswer, Counted, Refused, ListShort, Outcome, TraceRead}
+use Rattle.races.proofs.Sizes.{count-most}
 use Rattle.races.specs.Races.{answerFor, bufferAfter, answerTo, bufferOf, listAnswer, listBuffer}
 
 pub events-most : (t : Trace) → t .len ≤ 256 → length (eventsOf t) ≤ 256
@@ -33,6 +34,13 @@ bytes-needed : (es : List Event) → length (pairBytes (listOf es)) ≡ needed e
 unfolding needed
 bytes-needed es = bytes-length (listOf es)
 
+pub double-most : (es : List Event) (c : Counts) → c ≡ countsOf es → length es ≤ 256 → 2 * c .listed ≤ 131072
+double-most es c e l = omega (arith, listed-is es c e, count-most listed es l)
+
+-- storing bytes leaves a buffer as long as it was
+pub list-room : (buffer list bytes : List ℕ) {n : ℕ} → length buffer ≡ 131072 → list ≡ sets buffer 0 bytes → n ≤ 131072 → n ≤ length list
+list-room buffer list bytes h e l = omega (arith, ap length e, length-sets buffer 0 bytes)
+
 module _ (es : List Event) (c : Counts) (e : c ≡ countsOf es) (old : List ℕ) where
   pub list-short : length old < 2 * c .listed → (Refused (ListShort (2 * c .listed)) ≡ answerFor es (length old)) × (old ≡ bufferAfter es old)
   unfolding answerFor bufferAfter
@@ -46,13 +54,13 @@ module _ (es : List Event) (c : Counts) (e : c ≡ countsOf es) (old : List ℕ)
       ap (take (2 * c .listed)) (h ∙ sets-eq (pairBytes (listOf es)) buffer 0 (omega (arith, bytes-needed es, needed-is es c e)))
       ∙ take-at (pairBytes (listOf es)) (drop (0 + length (pairBytes (listOf es))) buffer) (2 * c .listed) (bytes-needed es ∙ sym (needed-is es c e))
 
-  pub list-done : (buffer list src out : List ℕ) → list ≡ sets buffer 0 (pairBytes (listOf es)) → 2 * c .listed ≤ length buffer → 2 * c .listed ≤ length old
+  pub list-done : (buffer list src out : List ℕ) → list ≡ sets buffer 0 (pairBytes (listOf es)) → length buffer ≡ 131072 → 2 * c .listed ≤ 131072 → 2 * c .listed ≤ length old
       → src ≡ take (2 * c .listed) list → out ≡ take (length src) src ++ drop (length src) old
       → (Counted c ≡ answerFor es (length old)) × (out ≡ bufferAfter es old)
   unfolding answerFor bufferAfter
-  list-done buffer list src out h l m s o =
+  list-done buffer list src out h b l m s o =
       let t : ltb (length old) (needed es) ≡ false = le-ltb (length old) (needed es) (omega (arith, needed-is es c e)) in
-      let w : src ≡ pairBytes (listOf es) = s ∙ made buffer list h l in (
+      let w : src ≡ pairBytes (listOf es) = s ∙ made buffer list h (omega arith) in (
         rw t (ap Counted e),
         rw t (o ∙ ap (λ (x : List ℕ). x ++ drop (length src) old) (take-all (length src) src (omega arith) ∙ w)
             ∙ ap (λ (n : ℕ). pairBytes (listOf es) ++ drop n old) (ap length w ∙ bytes-needed es)),

@@ -9,6 +9,13 @@ ghost use lib.ListN.{length};
 ghost use Rattle.events.specs.Events.{eventsOf};
 ghost use Rattle.races.specs.Races.{answerFor, bufferAfter, listAnswer, listBuffer};
 
+// Room for two bytes of each pair of 256 events, and more.
+fn pair_room() -> [u8; 131072]
+    ensures { λ r. ⌜ length r ≡ 131072 ⌝ }
+{
+    [0u8; 131072]
+}
+
 // The listed pairs from the buffer's start and the four counts; where the buffer is too short, the bytes needed. The list is made
 // in a buffer of its own, so that nothing is written before its length is known.
 fn list(t: Trace, out: &mut [u8]) -> ListAnswer
@@ -17,7 +24,7 @@ fn list(t: Trace, out: &mut [u8]) -> ListAnswer
     ensures { λ r. ⌜ now (out .exit) ≡ bufferAfter (eventsOf t) (now (out .entry)) ⌝ }
 {
     let rows = causality::happens_before(t);
-    let mut pairs = [0u8; 131072];
+    let mut pairs = pair_room();
     let counts = pairs::scan(t, &rows, &mut pairs);
     let listed = counts.listed;
     let needed = 2 * listed;

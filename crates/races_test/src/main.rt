@@ -6,7 +6,7 @@ use libc::STDOUT_FILENO;
 const CASES: u8 = 69;
 
 fn print_report(trace: &[u8]) {
-    let mut out = [0u8; 425000];
+    let mut out = report::room();
     let n = report::report(trace, &mut out);
     io::write_all(STDOUT_FILENO, lines::front(&out, n));
 }

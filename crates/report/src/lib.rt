@@ -2,3 +2,4 @@
 pub mod printing;
 
 pub use printing::report;
+pub use printing::room;

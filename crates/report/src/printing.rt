@@ -4,6 +4,7 @@ use digits::put_byte;
 use pairs::Counts;
 use races::ListAnswer;
 use races::list_races;
+ghost use mathlib.Core.Path.{_≡_};
 ghost use Prim.Native.Nat.{_+_, _≤_, _<_, _^_};
 ghost use lib.ListN.{length};
 ghost use Rattle.digits.specs.Print.{Put};
@@ -50,12 +51,26 @@ fn put_counts(out: &mut [u8], at: usize, c: Counts) -> usize
     l + 1
 }
 
+// Room for any list.
+fn list_room() -> [u8; 65536]
+    ensures { λ r. ⌜ length r ≡ 65536 ⌝ }
+{
+    [0u8; 65536]
+}
+
+// Room for all that is printed of a trace.
+pub fn room() -> [u8; 425000]
+    ensures { λ r. ⌜ length r ≡ 425000 ⌝ }
+{
+    [0u8; 425000]
+}
+
 // What `racelist` prints of a trace. No list takes more than 65,280 bytes, so that the list call never finds its buffer short.
 pub fn report(trace: &[u8], out: &mut [u8]) -> usize
     ensures { λ r. ⌜ Put (reportText (now (trace .entry))) 0 (now (out .entry)) r (now (out .exit)) ⌝ }
     ensures { λ r. ⌜ r ≤ 425000 ⌝ }
 {
-    let mut list = [0u8; 65536];
+    let mut list = list_room();
     let answer = list_races(trace, &mut list);
     match answer {
         ListAnswer::Counts(c) => {

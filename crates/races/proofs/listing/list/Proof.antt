@@ -1,28 +1,26 @@
 use Prim.Native.Nat.{ℕ, _*_, _≤_}
 use native.Mathlib.Omega.{arith}
-use mathlib.Core.Path.{refl, sym, ap}
-use lib.ListN.{length, replicate, length-replicate}
-use lib.Seq.{length-sets, length-take-le}
+use mathlib.Core.Path.{refl, sym}
+use lib.ListN.{length}
+use lib.Seq.{length-take-le}
 use Rattle.events.specs.Events.{eventsOf}
-use Rattle.pairs.specs.List.{listed, listOf, pairBytes}
-use Rattle.races.proofs.ListLaws.{events-most, listed-is, list-short, list-done}
-use Rattle.races.proofs.Sizes.{count-most}
+use Rattle.pairs.specs.List.{listOf, pairBytes}
+use Rattle.races.proofs.ListLaws.{events-most, double-most, list-room, list-short, list-done}
 use borrow.Author.Needs.{needs}
 use Rattle.races.proofs.listing.list.Statement.{statement}
 use Rattle.races.proofs.listing.list.Tie as tie
 
 scan-requires : tie.Need-scan-requires
-scan-requires c κs = ((c .before .before .before .before .pre, search needs), c .before .before .happens-before .ensures)
+scan-requires c κs = ((c .before .before .before .before .before .pre, search needs), c .before .before .before .happens-before .ensures)
 
 -- the list's own buffer is long enough for all pairs
 buffer-fits : (c : tie.After-pairs2) → 2 * c .before .scan .result .listed ≤ 131072
 buffer-fits c =
-    let s = c .before .before .before .before .before .before in
-    let es = eventsOf (s .args .t) in
-    omega (arith, listed-is es (c .before .scan .result) (c .before .scan .ensures .0), count-most listed es (events-most (s .args .t) (s .pre)))
+    let s = c .before .before .before .before .before .before .before in
+    double-most _ (c .before .scan .result) (c .before .scan .ensures .0) (events-most (s .args .t) (s .pre))
 
 prefix-fits : (c : tie.After-pairs2) → 2 * c .before .scan .result .listed ≤ length (c .before .scan .last .1 .1 .0)
-prefix-fits c = omega (arith, buffer-fits c, ap length (c .before .scan .ensures .1), length-sets (replicate 131072 0) 0 (pairBytes (listOf (eventsOf (c .before .before .before .before .before .before .args .t)))), length-replicate {A = ℕ} 131072 0)
+prefix-fits c = list-room (c .before .before .before .before .pair-room .result) _ (pairBytes (listOf (eventsOf (c .before .before .before .before .before .before .before .args .t)))) (c .before .before .before .before .pair-room .ensures) (c .before .scan .ensures .1) (buffer-fits c)
 
 mul-needed : tie.Need-mul-needed
 mul-needed c = omega (arith, buffer-fits c)
@@ -41,12 +39,12 @@ copy-requires c κs = omega (arith, length-take-le (2 * c .before .before .befor
 
 returns-2 : tie.Need-returns-2
 returns-2 c =
-    list-done _ (c .before .before .before .before .before .before .before .scan .result) (c .before .before .before .before .before .before .before .scan .ensures .0) _ _ _ _ _ (c .before .before .before .before .before .before .before .scan .ensures .1) (buffer-fits (c .before .before .before .before .before .before)) (omega arith) refl (c .before .before .copy .ensures .1)
+    list-done _ (c .before .before .before .before .before .before .before .scan .result) (c .before .before .before .before .before .before .before .scan .ensures .0) _ _ _ _ _ (c .before .before .before .before .before .before .before .scan .ensures .1) (c .before .before .before .before .before .before .before .before .before .before .pair-room .ensures) (buffer-fits (c .before .before .before .before .before .before)) (omega arith) refl (c .before .before .copy .ensures .1)
 
 pub list-spec : {M : Type 1} → statement M
 list-spec =
     tie.close
-    (tie.spec (λ c κs. search needs) (λ c. search needs)
+    (tie.spec (λ c κs. search needs) (λ c κs. search needs) (λ c. search needs)
     scan-requires
     mul-needed
     returns

@@ -1,9 +1,8 @@
 -- The list call fills a buffer of its own, which every list fits; what it left there is printed.
-use Prim.Native.Nat.{ℕ, _*_}
+use Prim.Native.Nat.{_*_}
 use native.Mathlib.Omega.{arith}
 use mathlib.Core.Path.{_≡_, sym}
 use mathlib.Core.Logic.{inl}
-use lib.ListN.{replicate, length-replicate}
 use lib.Seq.{length-take-le}
 use Rattle.digits.proofs.Writing.{put-then}
 use Rattle.trace.specs.TraceText.{readTrace}
@@ -13,12 +12,12 @@ use Rattle.report.proofs.printing.report.Statement.{statement}
 use Rattle.report.proofs.printing.report.Tie as tie
 
 -- what the call left, where it counts
-listing : (c : tie.After-struct-known) → Listing (c .before .before .before .before .before .before .before .before .before .args .trace .now) (c .before .before .before .before .before .list-races .last .1 .0) (c .before .before .answer .given .0 .0)
-listing c = call-counts _ (replicate 65536 0) (length-replicate {A = ℕ} 65536 0) (c .before .before .before .before .before .list-races .ensures .0) (c .before .before .before .before .before .list-races .ensures .1) _ (c .before .before .answer .given .1)
+listing : (c : tie.After-struct-known) → Listing (c .before .before .before .before .before .before .before .before .before .before .args .trace .now) (c .before .before .before .before .before .list-races .last .1 .0) (c .before .before .answer .given .0 .0)
+listing c = call-counts _ _ (c .before .before .before .before .before .before .before .list-room .ensures) (c .before .before .before .before .before .list-races .ensures .0) (c .before .before .before .before .before .list-races .ensures .1) _ (c .before .before .answer .given .1)
 
 -- the trace's own refusal, where it refuses
-refusal : (c : tie.After-answer2) → readTrace (c .before .before .before .before .before .before .before .args .trace .now) ≡ inl (c .answer2 .given .0 .0)
-refusal c = call-refusal _ (replicate 65536 0) (length-replicate {A = ℕ} 65536 0) (c .before .before .before .list-races .ensures .0) _ (c .answer2 .given .1)
+refusal : (c : tie.After-answer2) → readTrace (c .before .before .before .before .before .before .before .before .args .trace .now) ≡ inl (c .answer2 .given .0 .0)
+refusal c = call-refusal _ (c .before .before .before .before .before .list-room .result) (c .before .before .before .before .before .list-room .ensures) (c .before .before .before .list-races .ensures .0) _ (c .answer2 .given .1)
 
 mul-n : tie.Need-mul-n
 mul-n c = omega (arith, listing c .most)
@@ -48,7 +47,7 @@ returns-2 c = refused-put _ _ (refusal (c .before .before .before .before .befor
 pub report-spec : {M : Type 1} → statement M
 report-spec =
     tie.close
-    (tie.spec (λ c. search needs) (λ c κs. search needs) (λ c. search needs)
+    (tie.spec (λ c κs. search needs) (λ c. search needs) (λ c κs. search needs) (λ c. search needs)
     mul-n
     array-share-prefix-list
     slice-aggregate-put-races

@@ -12,7 +12,7 @@ use Rattle.rules.specs.TableText.{readTables}
 use Rattle.rules.specs.Normal.{normalText}
 use Rattle.schedule.specs.Schedule.{orderRefusal}
 use Rattle.running.specs.Running.{runRows, answersIn}
-use Rattle.running.specs.Answers.{answersText}
+use Rattle.answers.specs.Answers.{answersText}
 use Rattle.replay.specs.Types.{Refusal, TooManyEntries, TablesShort, AnswersShort, Answer, Event, Row, ReplayAnswer, Lengths, Refused}
 
 -- what a replay writes: the normalised end tables, and the answers by rising event

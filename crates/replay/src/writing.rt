@@ -1,12 +1,12 @@
 // The end tables and the answers, written once both are known to fit.
 use crate::answer::ReplayAnswer;
+use answers::Kept;
 use refusals::Refusal;
 use rows::Rows;
-use running::Kept;
 ghost use Prim.Native.Nat.{_≤_};
 ghost use lib.ListN.{length};
 ghost use Rattle.rows.specs.Rows.{rowsOf};
-ghost use Rattle.running.specs.Running.{keptAt};
+ghost use Rattle.answers.specs.Answers.{keptAt};
 ghost use Rattle.replay.specs.Replay.{bothTexts, fitting, Leaves};
 
 // Both texts, each from its buffer's start; nothing is written where one of them does not fit.
@@ -24,11 +24,11 @@ pub fn write_both(
     if out.len() < tables_need {
         return ReplayAnswer::Refused(Refusal::TablesShort(tables_need));
     }
-    let answers_need = running::answers_length(answers, n);
+    let answers_need = answers::answers_length(answers, n);
     if replies.len() < answers_need {
         return ReplayAnswer::Refused(Refusal::AnswersShort(answers_need));
     }
     let a = rules::write_normal(out, rows);
-    let b = running::write_answers(replies, answers, n);
+    let b = answers::write_answers(replies, answers, n);
     ReplayAnswer::Lengths(a, b)
 }

@@ -1,10 +1,5 @@
 pub mod RowOrder
 pub mod RowLaws
 pub mod TablesOf
-pub mod Lookups
-pub mod Steps
-pub mod SortLaws
 pub mod Pass
-pub mod Places
-pub mod Searches
-pub mod Turns
+pub mod InOrder

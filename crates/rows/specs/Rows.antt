@@ -1,17 +1,15 @@
--- Document 01, "Tables and replay": the tables of all switches as one list of rows, switches rising, then table order; the
--- changes of a table on such a list; and the rows of a table text's lines put in order.
+-- Document 01, "Tables and replay": the tables of all switches as one list of rows, switches rising, then table order, and
+-- the changes of a table on such a list.
 use mathlib.Core.Path.{_≡_}
 use mathlib.Core.Bool.{Bool, true, false, _&&_, _||_, cond}
-use mathlib.Core.Option.{Option, none, some}
-use mathlib.Core.Logic.{_⊎_, inl, inr}
 use mathlib.Core.List.{List, [], _∷_}
-use Prim.Native.Nat.{ℕ, _+_}
+use Prim.Native.Nat.{ℕ}
 use lib.Dec.{eqb}
-use lib.ListN.{take, getElem?}
+use lib.ListN.{take}
 use Rattle.flow.specs.Entries.{orderOf, thenBy, keyOrder, isEqual, sameKey}
 use Rattle.table.specs.FlowTable.{Table, inside, clash, admits}
 use Rattle.orders.specs.Tables.{Tables}
-use Rattle.rows.specs.Types.{Action, Key, Entry, Ordering, Less, Equal, Greater, Row, Rows, Filter, Same, Within, Clash, Fits, SortedLines}
+use Rattle.rows.specs.Types.{Action, Key, Entry, Ordering, Less, Equal, Greater, Row, Rows, Filter, Same, Within, Clash, Fits}
 
 -- the rows that an array holds
 abbrev pub rowsOf : Rows → List Row
@@ -90,25 +88,3 @@ passes (Same k) = sameKey k
 passes (Within m) = inside m
 passes (Clash k) = clash k
 passes (Fits p) = admits p
-
--- ---- the rows of a text's lines
--- line k has a row whose switch and key stand on an earlier line
-abbrev pub standsIn : List Row → Option Row → Bool
-standsIn rs none = false
-standsIn rs (some x) = anyRow (sameSlot x) rs
-
-unfoldable pub standsEarlier : List Row → ℕ → Bool
-standsEarlier lines k = standsIn (take k lines) (getElem? lines k)
-
--- the rows of the lines from k on, put in order among those of the earlier lines; or the first of those lines whose switch and key
--- are there already
-unfoldable pub sortFrom : ℕ → List Row → List Row → ℕ ⊎ List Row
-sortFrom k earlier [] = inr earlier
-sortFrom k earlier (x ∷ xs) = cond (anyRow (sameSlot x) earlier) (inl k) (sortFrom (k + 1) (insertRow x earlier) xs)
-
-unfoldable pub sortRows : List Row → ℕ ⊎ List Row
-sortRows lines = sortFrom 0 [] lines
-
--- what `sort` answers
-abbrev pub sortAnswer : SortedLines → ℕ ⊎ List Row
-sortAnswer r = cond (r .ok) (inr (rowsOf (r .rows))) (inl (r .line))

@@ -1,11 +1,5 @@
 -- The types that this crate's definitions speak of, under one name each.
-pub use Rattle.flow.specs.declared.matching.Match.{Match}
-pub use Rattle.flow.specs.declared.matching.Packet.{Packet}
-pub use Rattle.flow.specs.declared.action.Action.{Action}
-pub use Rattle.flow.specs.declared.entry.Key.{Key}
-pub use Rattle.flow.specs.declared.entry.Entry.{Entry}
-pub use Rattle.flow.specs.declared.ordering.Ordering.{Ordering}
-pub use Rattle.flow.specs.declared.ordering.Ordering.the-variants.{Less, Equal, Greater}
+pub use Rattle.table.specs.Types.{Match, Packet, Action, Key, Entry, Ordering, Less, Equal, Greater}
 pub use Rattle.table.specs.declared.operation.TableOperation.{TableOperation}
 pub use Rattle.table.specs.declared.operation.TableOperation.the-variants.{Packet as Lookup, Add, AddChecked, ModifyStrict, Modify, DeleteStrict, Delete}
 pub use Rattle.table.specs.declared.operation.Operation.{Operation}
@@ -16,5 +10,3 @@ pub use Rattle.rows.specs.declared.row.Row.{Row}
 pub use Rattle.rows.specs.declared.row.Rows.{Rows}
 pub use Rattle.rows.specs.declared.filter.Filter.{Filter}
 pub use Rattle.rows.specs.declared.filter.Filter.the-variants.{Same, Within, Clash, Fits}
-pub use Rattle.rows.specs.declared.sorting.Sorted.{Sorted as SortedLines}
-pub use Rattle.rows.specs.declared.searching.Search.{Search}

@@ -73,17 +73,14 @@ impl Row {
     pub fn assigned(self, chosen: bool, action: Action) -> Row
         ensures { λ r. ⌜ r ≡ assignRow chosen action self ⌝ }
     {
-        if !chosen {
-            return self;
+        if chosen {
+            let e = self.entry;
+            let key = e.key;
+            return Row {
+                switch: self.switch,
+                entry: Entry { key, action },
+            };
         }
-        let e = self.entry;
-        let k = e.key;
-        Row {
-            switch: self.switch,
-            entry: Entry {
-                key: k,
-                action: action,
-            },
-        }
+        self
     }
 }

@@ -11,10 +11,11 @@ use lib.ListN.{length}
 use Rattle.digits.proofs.Readers.{on-cond}
 use Rattle.lines.specs.Lines.{lines, endsWithLf}
 use Rattle.table.specs.FlowTable.{Sorted}
-use Rattle.rows.specs.Rows.{row, SortedRows, tableOf, insertRow, anyRow, sameSlot, sortFrom, sortRows}
+use Rattle.rows.specs.Rows.{row, SortedRows, tableOf, insertRow, anyRow, sameSlot}
+use Rattle.sorting.specs.Sorting.{sortFrom, sortRows}
 use Rattle.rows.proofs.RowLaws.{length-insert}
 use Rattle.rows.proofs.TablesOf.{sorted-table}
-use Rattle.rows.proofs.SortLaws.{InOrder, sort-rows}
+use Rattle.sorting.proofs.SortLaws.{InOrder, sort-rows}
 use Rattle.rules.specs.Types.{Entry, Refusal, Row}
 use Rattle.rules.specs.TableText.{readRows, sorted, inOrder, readTables, Holds, RowInRange}
 use Rattle.rules.proofs.Lines.{refuses, ReadAs, read-as, as-read, same-length, in-range, line-of, mem-at}

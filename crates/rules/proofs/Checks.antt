@@ -11,7 +11,7 @@ use Rattle.digits.specs.Print.{Put}
 use Rattle.digits.proofs.Writing.{put-whole}
 use Rattle.lines.specs.Lines.{lines, newlines, endsWithLf}
 use Rattle.lines.proofs.Lines.{lines-count}
-use Rattle.rows.specs.Rows.{sortRows}
+use Rattle.sorting.specs.Sorting.{sortRows}
 use Rattle.rules.specs.Types.{Refusal, TablesTooLong, TablesUnended, TablesTooManyLines, KeyTwice, TablesShort, Row, Outcome, Accepted, Refused}
 use Rattle.rules.specs.TableText.{readRows, inOrder, sorted, readTables, asOutcome}
 use Rattle.rules.specs.Normal.{Normalised, normalText, putText, normalised}

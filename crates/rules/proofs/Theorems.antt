@@ -13,10 +13,11 @@ use Rattle.lines.specs.Lines.{lines, newlines, endsWithLf}
 use Rattle.lines.proofs.Lines.{lines-plain, lines-unlines, unlines-ends}
 use Rattle.flow.proofs.Orders.{equal≢less}
 use Rattle.refusals.specs.Refusals.{numberOf}
-use Rattle.rows.specs.Rows.{rowOrder, RowBefore, SortedRows, sortRows}
+use Rattle.rows.specs.Rows.{rowOrder, RowBefore, SortedRows}
+use Rattle.sorting.specs.Sorting.{sortRows}
 use Rattle.rows.proofs.RowOrder.{like-slot, row-self}
 use Rattle.rows.proofs.RowLaws.{same-rows}
-use Rattle.rows.proofs.SortLaws.{LowestTwice, Twice, Outcome, sort-outcome, sort-line, stands-iff}
+use Rattle.sorting.proofs.SortLaws.{LowestTwice, Twice, Outcome, sort-outcome, sort-line, stands-iff}
 use Rattle.flow.specs.declared.ordering.Ordering.the-variants.{Less}
 use Rattle.rules.specs.Types.{Refusal, KeyTwice, Row}
 use Rattle.rules.specs.TableText.{printRow, readRows, sorted, inOrder, readTables, HoldSame, TwiceOn, LowestOn}

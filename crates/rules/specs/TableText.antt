@@ -16,7 +16,8 @@ use Rattle.flow.specs.Entries.{EntryInRange}
 use Rattle.fields.specs.Print.{printEntry}
 use Rattle.fields.specs.Read.{readEntry}
 use Rattle.fields.specs.Written.{EntryWritten, clearEntry}
-use Rattle.rows.specs.Rows.{row, rowsOf, sortRows}
+use Rattle.rows.specs.Rows.{row, rowsOf}
+use Rattle.sorting.specs.Sorting.{sortRows}
 use Rattle.rules.specs.Types.{Refusal, TablesTooLong, TablesUnended, TablesTooManyLines, TablesMalformed, TablesAddressBit, KeyTwice, Row, RowRead, RowTaken, RowRefused, Outcome, Accepted, Refused, TablesRead}
 
 -- ---- a line

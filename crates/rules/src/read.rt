@@ -9,7 +9,8 @@ ghost use mathlib.Core.Logic.{inl};
 ghost use Prim.Native.Nat.{_≤_};
 ghost use lib.ListN.{length};
 ghost use Rattle.lines.specs.Lines.{lines};
-ghost use Rattle.rows.specs.Rows.{rowsOf, sortRows};
+ghost use Rattle.rows.specs.Rows.{rowsOf};
+ghost use Rattle.sorting.specs.Sorting.{sortRows};
 ghost use Rattle.rules.specs.TableText.{readRows, inOrder, readTables, asTables};
 
 // Whether the text is accepted.
@@ -72,7 +73,7 @@ fn sort_rows(lines: Rows) -> TablesRead
     requires { ⌜ lines .len ≤ 256 ⌝ }
     ensures { λ r. ⌜ (asTables r ≡ inOrder (sortRows (rowsOf lines))) × (r .rows .len ≤ 256) ⌝ }
 {
-    let sorted = rows::sort(lines);
+    let sorted = sorting::sort(lines);
     let rows = sorted.rows;
     if sorted.ok {
         return TablesRead {

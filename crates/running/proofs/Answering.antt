@@ -13,11 +13,11 @@ use Rattle.table.specs.FlowTable.{Table, highest, atPriority, firstAt, fitting,
 use Rattle.orders.specs.Orders.{has, IsOrderOf}
 use Rattle.orders.proofs.OrderLaws.{in-range}
 use Rattle.rows.specs.Rows.{tableOf}
-use Rattle.rows.specs.Stepping.{stepRows, tableReply, replyRows}
+use Rattle.stepping.specs.Stepping.{stepRows, tableReply, replyRows}
 use Rattle.events.specs.Events.{noEvent}
 use Rattle.running.specs.Types.{Lookup, Add, AddChecked, ModifyStrict, Modify, DeleteStrict, Delete, Operation, Other, Barrier, Message, OnTable, Answer, Silent, Event, Row}
 use Rattle.running.specs.Running.{operationAt, keptIn, answersIn}
-use Rattle.running.specs.Answers.{hasAnswer, isSilent}
+use Rattle.answers.specs.Answers.{hasAnswer, isSilent}
 use Rattle.running.proofs.EndTables.{kept-absent}
 
 -- a packet has an answer, a miss too

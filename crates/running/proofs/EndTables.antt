@@ -13,8 +13,8 @@ use Rattle.orders.specs.Orders.{run, replyIn, has, stands, IsOrderOf}
 use Rattle.orders.specs.Tables.{stepOf, replyOf, endTables, answers}
 use Rattle.orders.proofs.OrderLaws.{not-twice}
 use Rattle.rows.specs.Rows.{SortedRows, tableOf, tablesOf}
-use Rattle.rows.specs.Stepping.{stepRows, replyRows}
-use Rattle.rows.proofs.Steps.{step-tables, reply-tables, sorted-step, length-step}
+use Rattle.stepping.specs.Stepping.{stepRows, replyRows}
+use Rattle.stepping.proofs.Steps.{step-tables, reply-tables, sorted-step, length-step}
 use Rattle.running.specs.Types.{Operation, Answer, Silent, Event, Row}
 use Rattle.running.specs.Running.{operationAt, runRows, keptIn, answersIn, givenOr}
 

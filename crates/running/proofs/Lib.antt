@@ -1,5 +1,4 @@
 pub mod RunLaws
 pub mod WorkLaws
 pub mod EndTables
-pub mod AnswerLaws
 pub mod Answering

@@ -6,15 +6,16 @@ use Prim.Native.Nat.{ℕ, zero, suc, _+_, _≤_, _<_}
 use native.Mathlib.Numerals.{add-one}
 use native.Mathlib.Omega.{arith}
 use lib.Dec.{eqb, ltb}
-use lib.ListN.{length, getD, set, replicate, take, drop, drop-of-length-le, length-take, List·getD-eq-default}
+use lib.ListN.{length, getD, set, take, drop, drop-of-length-le, length-take, List·getD-eq-default}
 use lib.Seq.{drop-cons, getD-set-same, getD-set-other}
 use borrow.Author.Tests.{eqb-true, eqb-false, ltb-true, ltb-false}
 use Rattle.flow.proofs.Booleans.{split}
-use Rattle.rows.specs.Stepping.{stepRows, replyRows}
+use Rattle.stepping.specs.Stepping.{stepRows, replyRows}
 use Rattle.events.specs.Events.{eventsOf, noEvent}
 use Rattle.events.proofs.TraceLaws.{event-at}
 use Rattle.running.specs.Types.{Operation, Other, Answer, Silent, Event, Trace, Row, Kept}
-use Rattle.running.specs.Running.{operationAt, runRows, keptIn, answersIn, kept, noAnswer, keptAt}
+use Rattle.running.specs.Running.{operationAt, runRows, keptIn, answersIn}
+use Rattle.answers.specs.Answers.{kept, noAnswer, keptAt}
 
 at-place : (o : List ℕ) (p : ℕ) → p < length o → drop p o ≡ getD o p 0 ∷ drop (p + 1) o
 at-place o p h = rw (add-one, drop-cons o p 0)
@@ -28,11 +29,6 @@ operation-here t e =
     (λ u. rw u (sym (ap (λ v. v .operation) (List·getD-eq-default (take (t .len) (t .events)) noEvent {n = e} (omega (arith, length-take (t .len) (t .events), ltb-false e (t .len) u))))))
 
 -- no answers yet
-pub none-kept : (n i : ℕ) → keptAt (replicate n noAnswer) i ≡ Silent
-none-kept zero i = refl
-none-kept (suc n) zero = refl
-none-kept (suc n) (suc i) = none-kept n i
-
 pub started : (es : List Event) (i : ℕ) (o : List ℕ) (rs : List Row) {a : Answer} → a ≡ Silent → keptIn es i o rs a ≡ answersIn es o rs i
 unfolding answersIn
 started es i o rs e = ap (keptIn es i o rs) e

@@ -5,7 +5,7 @@ use mathlib.Core.List.{List}
 use Prim.Native.Nat.{ℕ, _+_, _≤_}
 use native.Mathlib.Omega.{arith}
 use Rattle.rows.specs.Rows.{row, insertRow}
-use Rattle.rows.specs.Stepping.{tableStep, stepRows, tableReply, replyRows}
+use Rattle.stepping.specs.Stepping.{tableStep, stepRows, tableReply, replyRows}
 use Rattle.running.specs.Types.{TableOperation, Lookup, Add, AddChecked, ModifyStrict, Modify, DeleteStrict, Delete, Operation, Other, Barrier, Message, OnTable, Silent, Row, Work, Step, Insert}
 use Rattle.running.specs.Running.{workIn, workOf}
 
@@ -40,12 +40,3 @@ puts-in true Other r e = absurd (never r e)
 puts-in true (Barrier w) r e = absurd (never r e)
 puts-in true (Message w) r e = absurd (never r e)
 puts-in true (OnTable w o) r e = puts-on w o r e
-
--- the rows from the place on move up, or none where the row is stored over another
-pub moved-from : (b : Bool) (i n : ℕ) → i ≤ n → (i ≤ cond b i n) × (cond b i n ≤ n)
-moved-from true i n h = (omega arith, h)
-moved-from false i n h = (h, omega arith)
-
-pub count-most : (b : Bool) (n : ℕ) → cond b n (n + 1) ≤ n + 1
-count-most true n = omega arith
-count-most false n = omega arith

@@ -5,12 +5,13 @@ use mathlib.Core.Option.{Option, none, some}
 use mathlib.Core.List.{List, [], _∷_}
 use Prim.Native.Nat.{ℕ, _+_, _≤_}
 use lib.Dec.{eqb}
-use lib.ListN.{length, getD}
+use lib.ListN.{length}
 use Rattle.orders.specs.Orders.{run}
 use Rattle.rows.specs.Rows.{rowsOf, row}
-use Rattle.rows.specs.Stepping.{stepRows, replyRows}
+use Rattle.stepping.specs.Stepping.{stepRows, replyRows}
 use Rattle.events.specs.Events.{eventAt}
-use Rattle.running.specs.Types.{TableOperation, Lookup, Add, AddChecked, ModifyStrict, Modify, DeleteStrict, Delete, Operation, Other, Barrier, Message, OnTable, Answer, Silent, Event, Row, Rows, Kept, Work, Step, Insert, Ran}
+use Rattle.answers.specs.Answers.{keptAt}
+use Rattle.running.specs.Types.{TableOperation, Lookup, Add, AddChecked, ModifyStrict, Modify, DeleteStrict, Delete, Operation, Other, Barrier, Message, OnTable, Answer, Silent, Event, Row, Rows, Work, Step, Insert, Ran}
 
 -- what event i does
 abbrev pub operationAt : List Event → ℕ → Operation
@@ -33,16 +34,6 @@ answersIn es o rs i = keptIn es i o rs Silent
 abbrev pub givenOr : Answer → Option Answer → Answer
 givenOr a none = a
 givenOr a (some b) = b
-
--- the answers that an array keeps
-abbrev pub kept : Answer → Kept
-kept a = record { answer = a }
-
-abbrev pub noAnswer : Kept
-noAnswer = kept Silent
-
-abbrev pub keptAt : List Kept → ℕ → Answer
-keptAt ks i = getD ks i noAnswer .answer
 
 -- how an event's rows are made: in place where it only puts a row in, and the rows are in order
 abbrev pub tableWork : ℕ → TableOperation → Work

@@ -1,26 +1,23 @@
 // The events of an order, taken from the front.
+use answers::Kept;
+use answers::no_answers;
 use events::Event;
 use events::Trace;
 use rows::Row;
 use rows::Rows;
-use rows::Search;
-use rows::reply;
-use rows::step;
+use searching::Search;
+use stepping::reply;
+use stepping::step;
 use table::Answer;
 use table::Operation;
 use table::TableOperation;
 ghost use mathlib.Core.Path.{_≡_};
 ghost use mathlib.Core.Bool.{cond};
-ghost use Prim.Native.Nat.{ℕ, _<_, _≤_};
+ghost use Prim.Native.Nat.{_<_, _≤_};
 ghost use lib.ListN.{length};
 ghost use Rattle.events.specs.Events.{eventsOf};
-ghost use Rattle.running.specs.Types.{Other, Silent};
-ghost use Rattle.running.specs.Running.{tableWork, workOf, keptAt, RunsTo};
-
-// An answer, silent where none was given.
-pub struct Kept {
-    pub answer: Answer,
-}
+ghost use Rattle.running.specs.Types.{Other};
+ghost use Rattle.running.specs.Running.{tableWork, workOf, RunsTo};
 
 // The rows that an order leaves, and the answer of each event under its number.
 pub struct Ran {
@@ -37,15 +34,6 @@ fn operation_if(present: bool, e: Event) -> Operation
     } else {
         Operation::Other
     }
-}
-
-fn no_answers() -> [Kept; 256]
-    ensures { λ r. ⌜ (length r ≡ 256) × ((i : ℕ) → keptAt r i ≡ Silent) ⌝ }
-{
-    let silent = Kept {
-        answer: Answer::Silent,
-    };
-    [silent; 256]
 }
 
 // How an event's rows are made: by `step`, or, where it only puts a row in, in place.

@@ -5,29 +5,29 @@ use native.Mathlib.Omega.{arith}
 use mathlib.Core.Path.{_≡_, refl, sym, ap, _∙_}
 use mathlib.Core.Bool.{true}
 use lib.ListN.{length, getD, set, take, drop, length-set}
-use lib.Seq.{length-take-le, getD-take}
 use borrow.Author.Needs.{needs}
 use Rattle.events.specs.Events.{eventsOf}
 use Rattle.events.proofs.TraceLaws.{length-mapped}
-use Rattle.rows.specs.Rows.{rowsOf, rowOrder, SortedRows}
-use Rattle.rows.specs.Stepping.{stepRows}
-use Rattle.rows.specs.Searching.{Searched}
-use Rattle.rows.proofs.Steps.{sorted-step}
-use Rattle.rows.proofs.Searches.{search-start, search-turn, search-less, search-end, without, moved-up, put-at}
-use Rattle.running.specs.Running.{operationAt, runRows, keptIn, answersIn, kept, keptAt}
+use Rattle.rows.specs.Rows.{rowsOf, SortedRows}
+use Rattle.stepping.specs.Stepping.{stepRows}
+use Rattle.stepping.proofs.Steps.{sorted-step}
+use Rattle.searching.proofs.Searches.{Searched, search-start, search-less, search-turn, search-end}
+use Rattle.searching.proofs.Shifts.{Shifting, shift-start, shift-turn, shift-end}
+use Rattle.running.specs.Running.{operationAt, runRows, keptIn, answersIn}
+use Rattle.answers.specs.Answers.{kept, keptAt}
 use Rattle.running.proofs.RunLaws.{operation-here, started, run-turn, kept-turn, run-done, kept-done}
-use Rattle.running.proofs.WorkLaws.{puts-in, moved-from, count-most}
+use Rattle.running.proofs.WorkLaws.{PutsIn, puts-in}
 use Rattle.running.proofs.running.run.Statement.{statement}
 use Rattle.running.proofs.running.run.Tie as tie
 
 abbrev Inv-loop2 : tie.InvT-loop2
-Inv-loop2 order t n in-order answers len rows p e row search₀ p-end search = Searched row (take len rows) search
+Inv-loop2 order t n in-order answers len rows p e row search₀ p-end search = Searched row rows len search
 
 abbrev μ-loop2 : tie.MeasureT-loop2
 μ-loop2 order t n in-order answers len rows p e row search₀ p-end search = search .at - search .low
 
 abbrev Inv-loop3 : tie.InvT-loop3
-Inv-loop3 order t n in-order answers len rows₀ p e row search at j₀ p-end rows j = (at ≤ j) × (j ≤ len) × (length rows ≡ 512) × (without rows len j ≡ without rows₀ len j₀)
+Inv-loop3 order t n in-order answers len rows₀ p e row search at j₀ p-end rows j = Shifting at len rows₀ j₀ rows j
 
 abbrev μ-loop3 : tie.MeasureT-loop3
 μ-loop3 order t n in-order answers len rows₀ p e row search at j₀ p-end rows j = j
@@ -75,11 +75,9 @@ room a =
 same : (a : tie.After-operation-if Inv-loop2 μ-loop2 Inv-loop3 μ-loop3 Inv-loop μ-loop) → a .operation-if .result ≡ operationAt (eventsOf (a .before .before .before .before .before .before .before .before .before .args .t1)) (getD (a .before .before .before .before .before .before .before .before .before .args .order .now) (a .before .before .before .before .loop .p) 0)
 same a = a .operation-if .ensures ∙ operation-here (a .before .before .before .before .before .before .before .before .before .args .t1) (getD (a .before .before .before .before .before .before .before .before .before .args .order .now) (a .before .before .before .before .loop .p) 0)
 
--- the place is at most that behind the rows
-reach : (q : tie.At-loop2 Inv-loop2 μ-loop2 Inv-loop3 μ-loop3 Inv-loop μ-loop) → q .loop2 .search .at ≤ q .before .before .before .before .before .before .before .before .before .loop .len
-reach q =
-    let l = q .before .before .before .before .before .before .before .before .before .loop in
-    omega (arith, q .loop2 .inv .within, length-take-le (l .len) (l .rows) (omega (arith, room (q .before .before .before .before .before .before .before .before), l .inv .4)))
+-- the event puts a row in
+in-place : (a : tie.After-work Inv-loop2 μ-loop2 Inv-loop3 μ-loop3 Inv-loop μ-loop) → PutsIn (a .before .before .before .before .before .before .before .before .before .before .in-order .result) (a .before .before .before .operation-if .result) (a .work .given .0 .0)
+in-place a = puts-in _ _ _ (sym (a .before .before .work-of .ensures) ∙ a .work .given .1)
 
 cast-e : tie.Need-cast-e Inv-loop2 μ-loop2 Inv-loop3 μ-loop3 Inv-loop μ-loop
 cast-e c = omega (arith, c .shared-slice-known2 .given (c .before .before .loop .p))
@@ -136,104 +134,85 @@ array-set-from-answers-2 c = omega (arith, known (c .before .before .before .bef
 loop2-holds : tie.Need-loop2-holds Inv-loop2 μ-loop2 Inv-loop3 μ-loop3 Inv-loop μ-loop
 loop2-holds c =
     let l = c .before .before .before .before .before .before .before .before .loop in
-    search-start _ _ (l .len) (length-take-le (l .len) (l .rows) (omega (arith, room (c .before .before .before .before .before .before .before), l .inv .4)))
+    search-start _ (l .rows) (l .len) (omega (arith, room (c .before .before .before .before .before .before .before), l .inv .4))
 
+-- a place searched is one of the rows
 mul-x : tie.Need-mul-x Inv-loop2 μ-loop2 Inv-loop3 μ-loop3 Inv-loop μ-loop
-mul-x c = omega (arith, reach (c .before .before .before), c .middle .ensures .1, room (c .before .before .before .before .before .before .before .before .before .before .before), c .before .before .before .before .before .before .before .before .before .before .before .before .loop .inv .4)
+mul-x c = omega (arith, c .before .before .before .loop2 .inv .within, c .middle .ensures .1, room (c .before .before .before .before .before .before .before .before .before .before .before), c .before .before .before .before .before .before .before .before .before .before .before .before .loop .inv .4)
 
 array-copy-out-x : tie.Need-array-copy-out-x Inv-loop2 μ-loop2 Inv-loop3 μ-loop3 Inv-loop μ-loop
-array-copy-out-x c = omega (arith, reach (c .before .before .before), c .middle .ensures .1, room (c .before .before .before .before .before .before .before .before .before .before .before), c .before .before .before .before .before .before .before .before .before .before .before .before .loop .inv .4)
+array-copy-out-x c = omega (arith, c .before .before .before .loop2 .inv .within, c .middle .ensures .1, room (c .before .before .before .before .before .before .before .before .before .before .before), c .before .before .before .before .before .before .before .before .before .before .before .before .loop .inv .4)
 
 loop2-less : tie.Need-loop2-less Inv-loop2 μ-loop2 Inv-loop3 μ-loop3 Inv-loop μ-loop
 loop2-less c =
     let mid = c .before .before .before .middle in
-    search-less (c .before .before .before .before .before .before .loop2 .search) (mid .result) (mid .ensures .0) (mid .ensures .1) (c .before .order .result) (c .narrowed .result) (c .narrowed .ensures)
+    search-less _ (mid .result) (mid .ensures .0) (mid .ensures .1) _ _ (c .narrowed .ensures)
 
 loop2-again : tie.Need-loop2-again Inv-loop2 μ-loop2 Inv-loop3 μ-loop3 Inv-loop μ-loop
 loop2-again c =
     let mid = c .before .before .before .middle in
     let q = c .before .before .before .before .before .before in
-    let l = q .before .before .before .before .before .before .before .before .before .loop in
-    let row = c .before .before .before .before .before .before .before .before .work .given .0 .0 in
-    let in-place = puts-in (c .before .before .before .before .before .before .before .before .before .before .before .before .before .before .before .before .before .before .in-order .result) (c .before .before .before .before .before .before .before .before .before .before .before .operation-if .result) row (sym (c .before .before .before .before .before .before .before .before .before .before .work-of .ensures) ∙ c .before .before .before .before .before .before .before .before .work .given .1) in
-    let under : mid .result < l .len = omega (arith, reach q, mid .ensures .1) in
-    search-turn _ _ (q .loop2 .search) (mid .result) (mid .ensures .0) (mid .ensures .1) _ (l .inv .5 (in-place .0)) _
-    (ap (rowOrder _) (getD-take (l .len) (l .rows) (mid .result) _ under) ∙ sym (c .before .order .ensures)) (q .loop2 .inv) _ (c .narrowed .ensures)
+    search-turn _ _ _ _ (q .loop2 .inv) _ (mid .ensures .0) (mid .ensures .1) _ (c .before .order .ensures) (c .narrowed .ensures) (q .before .before .before .before .before .before .before .before .before .loop .inv .5 (in-place (q .before .before) .0))
+
+moves-to-requires : tie.Need-moves-to-requires Inv-loop2 μ-loop2 Inv-loop3 μ-loop3 Inv-loop μ-loop
+moves-to-requires c κs = omega (arith, c .before .before .loop2 .inv .within)
 
 loop3-holds : tie.Need-loop3-holds Inv-loop2 μ-loop2 Inv-loop3 μ-loop3 Inv-loop μ-loop
-loop3-holds c =
-    let q = c .before .before .before in
-    let l = q .before .before .before .before .before .before .before .before .before .loop in
-    let from = moved-from (q .loop2 .search .same) (q .loop2 .search .at) (l .len) (reach q) in
-    (omega (arith, from .0, c .moves-to .ensures), omega (arith, from .1, c .moves-to .ensures), l .inv .4, refl)
+loop3-holds c = shift-start _ _ _ _ (c .moves-to .ensures .1) (c .moves-to .ensures .2) (c .before .before .before .before .before .before .before .before .before .before .before .before .loop .inv .4)
 
 mul-x-2 : tie.Need-mul-x-2 Inv-loop2 μ-loop2 Inv-loop3 μ-loop3 Inv-loop μ-loop
-mul-x-2 c = omega (arith, c .loop3-test .taken, c .before .loop3 .inv .1, c .before .loop3 .inv .2, room (c .before .before .before .before .before .before .before .before .before .before .before .before .before))
+mul-x-2 c = omega (arith, c .loop3-test .taken, c .before .loop3 .inv .below, c .before .loop3 .inv .size, room (c .before .before .before .before .before .before .before .before .before .before .before .before .before))
 
 array-copy-out-x-2 : tie.Need-array-copy-out-x-2 Inv-loop2 μ-loop2 Inv-loop3 μ-loop3 Inv-loop μ-loop
-array-copy-out-x-2 c = omega (arith, c .loop3-test .taken, c .before .loop3 .inv .1, c .before .loop3 .inv .2, room (c .before .before .before .before .before .before .before .before .before .before .before .before .before))
+array-copy-out-x-2 c = omega (arith, c .loop3-test .taken, c .before .loop3 .inv .below, c .before .loop3 .inv .size, room (c .before .before .before .before .before .before .before .before .before .before .before .before .before))
 
 add-rows : tie.Need-add-rows Inv-loop2 μ-loop2 Inv-loop3 μ-loop3 Inv-loop μ-loop
-add-rows c = omega (arith, c .before .loop3-test .taken, c .before .before .loop3 .inv .1, c .before .before .loop3 .inv .2, room (c .before .before .before .before .before .before .before .before .before .before .before .before .before .before))
+add-rows c = omega (arith, c .before .loop3-test .taken, c .before .before .loop3 .inv .below, c .before .before .loop3 .inv .size, room (c .before .before .before .before .before .before .before .before .before .before .before .before .before .before))
 
 mul-rows : tie.Need-mul-rows Inv-loop2 μ-loop2 Inv-loop3 μ-loop3 Inv-loop μ-loop
-mul-rows c = omega (arith, c .before .loop3-test .taken, c .before .before .loop3 .inv .1, c .before .before .loop3 .inv .2, room (c .before .before .before .before .before .before .before .before .before .before .before .before .before .before))
+mul-rows c = omega (arith, c .before .loop3-test .taken, c .before .before .loop3 .inv .below, c .before .before .loop3 .inv .size, room (c .before .before .before .before .before .before .before .before .before .before .before .before .before .before))
 
 array-set-from-rows : tie.Need-array-set-from-rows Inv-loop2 μ-loop2 Inv-loop3 μ-loop3 Inv-loop μ-loop
-array-set-from-rows c = omega (arith, c .before .loop3-test .taken, c .before .before .loop3 .inv .1, c .before .before .loop3 .inv .2, room (c .before .before .before .before .before .before .before .before .before .before .before .before .before .before))
+array-set-from-rows c = omega (arith, c .before .loop3-test .taken, c .before .before .loop3 .inv .below, c .before .before .loop3 .inv .size, room (c .before .before .before .before .before .before .before .before .before .before .before .before .before .before))
 
 mul-rows-2 : tie.Need-mul-rows-2 Inv-loop2 μ-loop2 Inv-loop3 μ-loop3 Inv-loop μ-loop
-mul-rows-2 c = omega (arith, c .loop3-test .left, c .before .loop3 .inv .0, c .before .loop3 .inv .1, c .before .loop3 .inv .2, room (c .before .before .before .before .before .before .before .before .before .before .before .before .before))
+mul-rows-2 c = omega (arith, c .loop3-test .left, c .before .loop3 .inv .above, c .before .loop3 .inv .below, c .before .loop3 .inv .size, room (c .before .before .before .before .before .before .before .before .before .before .before .before .before))
 
 array-set-from-rows-2 : tie.Need-array-set-from-rows-2 Inv-loop2 μ-loop2 Inv-loop3 μ-loop3 Inv-loop μ-loop
-array-set-from-rows-2 c = omega (arith, c .loop3-test .left, c .before .loop3 .inv .0, c .before .loop3 .inv .1, c .before .loop3 .inv .2, room (c .before .before .before .before .before .before .before .before .before .before .before .before .before))
+array-set-from-rows-2 c = omega (arith, c .loop3-test .left, c .before .loop3 .inv .above, c .before .loop3 .inv .below, c .before .loop3 .inv .size, room (c .before .before .before .before .before .before .before .before .before .before .before .before .before))
 
 loop3-again : tie.Need-loop3-again Inv-loop2 μ-loop2 Inv-loop3 μ-loop3 Inv-loop μ-loop
-loop3-again c =
-    let m = c .before .before .loop3 in
-    let l = c .before .before .before .before .before .before .before .before .before .before .before .before .before .before .before .loop in
-    let e : m .j - 1 + 1 ≡ m .j = omega (arith, c .before .loop3-test .taken) in (
-      omega (arith, c .before .loop3-test .taken),
-      omega (arith, m .inv .1),
-      simp length-set (m .inv .2),
-      moved-up (m .rows) (l .len) (m .j - 1) _ (omega (arith, m .inv .1, c .before .loop3-test .taken)) (omega (arith, m .inv .2, room (c .before .before .before .before .before .before .before .before .before .before .before .before .before .before))) ∙ ap (without (m .rows) (l .len)) e ∙ m .inv .3,
-    )
+loop3-again c = shift-turn _ _ _ _ _ _ (c .before .before .loop3 .inv) (room (c .before .before .before .before .before .before .before .before .before .before .before .before .before .before)) _ (c .before .loop3-test .taken)
 
 count-with-requires : tie.Need-count-with-requires Inv-loop2 μ-loop2 Inv-loop3 μ-loop3 Inv-loop μ-loop
-count-with-requires c κs = omega (arith, room (c .before .before .before .before .before .before .before .before .before .before .before .before .before))
+count-with-requires c κs = room (c .before .before .before .before .before .before .before .before .before .before .before .before .before)
 
 loop-again-2 : tie.Need-loop-again-2 Inv-loop2 μ-loop2 Inv-loop3 μ-loop3 Inv-loop μ-loop
 loop-again-2 c =
     let m = c .before .before .loop3 in
     let q = c .before .before .before .before .before .before in
-    let at = q .loop2 .search .at in
-    let l = c .before .before .before .before .before .before .before .before .before .before .before .before .before .before .before .loop in
-    let s = c .before .before .before .before .before .before .before .before .before .before .before .before .before .before .before .before .before .before .before .before .args in
+    let w = q .before .before in
+    let l = q .before .before .before .before .before .before .before .before .before .loop in
+    let s = q .before .before .before .before .before .before .before .before .before .before .before .before .before .before .args in
     let es = eventsOf (s .t1) in
     let o = s .order .now in
-    let here = getD o (l .p) 0 in
-    let f = c .before .before .before .before .before .before .before .before .before .before .before .operation-if .result in
-    let h = c .before .before .before .before .before .before .before .before .before .before .before .before .before .before .loop-test .taken in
+    let f = w .before .before .before .operation-if .result in
+    let h = q .before .before .before .before .before .before .before .before .loop-test .taken in
     let rs = take (l .len) (l .rows) in
-    let row = c .before .before .before .before .before .before .before .before .work .given .0 .0 in
-    let in-place = puts-in (c .before .before .before .before .before .before .before .before .before .before .before .before .before .before .before .before .before .before .in-order .result) f row (sym (c .before .before .before .before .before .before .before .before .before .before .work-of .ensures) ∙ c .before .before .before .before .before .before .before .before .work .given .1) in
-    let xs = take (c .count-with .result) (set (m .rows) at row) in
-    let end : at ≡ m .j = omega (arith, m .inv .0, c .before .loop3-test .left) in
+    let xs = take (c .count-with .result) (set (m .rows) (q .loop2 .search .at) (w .work .given .0 .0)) in
+    let p = search-end _ _ _ _ (q .loop2 .inv) (c .before .before .before .before .if1 .left) in
     let stepped : xs ≡ stepRows f rs =
-    ap (λ k. take k (set (m .rows) at row)) (c .count-with .ensures)
-    ∙ put-at row (l .rows) (l .len) at (omega (arith, room (c .before .before .before .before .before .before .before .before .before .before .before .before .before .before), l .inv .4)) (m .rows) (omega (arith, room (c .before .before .before .before .before .before .before .before .before .before .before .before .before .before), m .inv .2)) (q .loop2 .search .same)
-    (search-end row rs (q .loop2 .search) (c .before .before .before .before .if1 .left) (q .loop2 .inv))
-    (ap (without (m .rows) (l .len)) end ∙ m .inv .3 ∙ ap (without (l .rows) (l .len)) (c .before .before .before .moves-to .ensures))
-    ∙ in-place .1 rs in (
+    shift-end _ _ _ _ _ _ (m .inv) (room (q .before .before .before .before .before .before .before .before)) _ (q .loop2 .search .same) _ (l .inv .4) (c .before .loop3-test .left) p (c .before .before .before .moves-to .ensures .0) (c .count-with .ensures .0)
+    ∙ in-place w .1 rs in (
       omega arith,
       l .inv .1,
       simp length-set (l .inv .2),
-      omega (arith, c .count-with .ensures, count-most (q .loop2 .search .same) (l .len), l .inv .3),
-      simp length-set (m .inv .2),
+      omega (arith, c .count-with .ensures .1, l .inv .3),
+      simp length-set (m .inv .size),
       λ b. rw stepped (sorted-step f rs (l .inv .5 b)),
-      run-turn es o (l .p) h rs xs f (same (c .before .before .before .before .before .before .before .before .before .before .before)) stepped (l .inv .6),
-      λ i. kept-turn es o (l .p) h rs xs f (same (c .before .before .before .before .before .before .before .before .before .before .before)) stepped i (l .answers) _ (omega (arith, known (c .before .before .before .before .before .before .before .before .before .before .before .before .before), l .inv .2))
-          (ap (λ a. set (l .answers) here (kept a)) (in-place .2 rs)) (l .inv .7 i),
+      run-turn es o (l .p) h rs xs f (same (w .before .before .before)) stepped (l .inv .6),
+      λ i. kept-turn es o (l .p) h rs xs f (same (w .before .before .before)) stepped i (l .answers) _ (omega (arith, known (w .before .before .before .before .before), l .inv .2))
+          (ap (λ a. set (l .answers) (getD o (l .p) 0) (kept a)) (in-place w .2 rs)) (l .inv .7 i),
     )
 
 returns : tie.Need-returns Inv-loop2 μ-loop2 Inv-loop3 μ-loop3 Inv-loop μ-loop
@@ -273,7 +252,8 @@ run-spec =
     mul-x
     array-copy-out-x (λ c κs. search needs) (λ c κs. c .before .before .middle .ensures .1)
     loop2-less
-    loop2-again (λ c κs. search needs)
+    loop2-again
+    moves-to-requires
     loop3-holds (λ c. omega arith)
     mul-x-2
     array-copy-out-x-2

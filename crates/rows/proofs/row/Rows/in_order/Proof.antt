@@ -7,7 +7,7 @@ use lib.ListN.{take, length}
 use borrow.Author.Needs.{needs}
 use Rattle.rows.specs.Rows.{SortedRows}
 use Rattle.rows.proofs.Pass.{length-mapped}
-use Rattle.rows.proofs.Searches.{in-order-one, in-order-next, in-order-under, in-order-not}
+use Rattle.rows.proofs.InOrder.{in-order-one, in-order-next, in-order-under, in-order-not}
 use Rattle.rows.proofs.row.Rows.in_order.Statement.{statement}
 use Rattle.rows.proofs.row.Rows.in_order.Tie as tie
 

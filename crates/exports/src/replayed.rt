@@ -1,6 +1,6 @@
 // The replay call.
 use crate::refused::Refused;
-use replay::ReplayAnswer;
+use writing::ReplayAnswer;
 ghost use mathlib.Core.Path.{_≡_};
 ghost use lib.ListN.{length};
 ghost use Rattle.replay.specs.Replay.{replayAnswer, tablesAfter, answersAfter};

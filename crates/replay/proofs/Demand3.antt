@@ -17,7 +17,8 @@ use Rattle.running.specs.Running.{operationAt, runRows, answersIn, givenOr}
 use Rattle.running.proofs.EndTables.{run-tables, run-answers}
 use Rattle.replay.specs.Types.{Event, Row}
 use Rattle.replay.specs.Allowed.{recorded, Allowed}
-use Rattle.replay.specs.Replay.{Replayed, textsOf, fitting, replayed, LongEnough, Writes}
+use Rattle.writing.specs.Writing.{Replayed, fitting}
+use Rattle.replay.specs.Replay.{textsOf, replayed, LongEnough, Writes}
 use Rattle.replay.proofs.RecordedOrder.{recorded-allowed}
 use Rattle.replay.proofs.SameTexts.{end-tables, end-answers, same-texts, same-entries}
 use Rattle.replay.proofs.Refusing.{at-most-512, only-rooms, long-enough, enough, writes}

@@ -1,61 +1,25 @@
 -- What each path through the code leaves: its answer and the two buffers. Assumes nothing.
-use mathlib.Core.Path.{_≡_, refl, sym, ap, ap₂, _∙_, fun-ext}
-use mathlib.Core.List.{List, _++_}
+use mathlib.Core.Path.{_≡_, refl, sym, ap, _∙_, fun-ext}
+use mathlib.Core.List.{List}
 use mathlib.Core.Logic.{_⊎_, inl, inr}
 use mathlib.Core.Option.{none, some}
 use Prim.Native.Nat.{ℕ, _≤_, _<_}
 use native.Mathlib.Omega.{arith}
-use borrow.Author.Tests.{lt-ltb, le-ltb}
-use lib.ListN.{length, drop, length-take}
-use Rattle.digits.specs.Print.{Put}
-use Rattle.digits.proofs.Writing.{put-whole}
+use borrow.Author.Tests.{le-ltb}
+use lib.ListN.{length, length-take}
 use Rattle.events.specs.Events.{eventsOf}
 use Rattle.rows.specs.Rows.{rowsOf}
 use Rattle.trace.specs.TraceText.{readTrace}
 use Rattle.rules.specs.TableText.{readTables}
-use Rattle.rules.specs.Normal.{normalText}
 use Rattle.schedule.specs.Schedule.{orderRefusal}
 use Rattle.schedule.proofs.Accepted.{accepted-iff}
 use Rattle.answers.specs.Answers.{keptAt}
 use Rattle.running.specs.Running.{runRows, RunsTo}
-use Rattle.answers.specs.Answers.{answersText}
 use Rattle.running.proofs.EndTables.{run-length}
-use Rattle.replay.specs.Types.{Refusal, TablesShort, AnswersShort, Answer, Event, Trace, Row, Rows, Ran, ReplayAnswer, Lengths, Refused}
-use Rattle.replay.specs.Replay.{Replayed, bothTexts, textsOf, fitting, ranFrom, unless, ordered, onward, replayed, answerOf, tablesIn, answersAt, replayAnswer, tablesAfter, answersAfter, Leaves}
-
-module _ {y z : Refusal ⊎ Replayed} {r : ReplayAnswer} {old new old' new' : List ℕ} where
-  leaves-as : y ≡ z → Leaves y r old new old' new' → Leaves z r old new old' new'
-  leaves-as e l = record { answer = l .answer ∙ ap answerOf e; tables = l .tables ∙ ap (λ x. tablesIn x old) e; answers = l .answers ∙ ap (λ x. answersAt x old') e }
-
--- after a refusal both buffers are as they were
-refused-as : {y : Refusal ⊎ Replayed} {e : Refusal} {old old' : List ℕ} → inl e ≡ y → Leaves y (Refused e) old old old' old'
-refused-as p = leaves-as p (record { answer = refl; tables = refl; answers = refl })
-
--- ---- 32, 33, or both texts written
-module _ (rs : List Row) (given : ℕ → Answer) (n : ℕ) (old old' : List ℕ) {m : ℕ} (tables : m ≡ length (normalText rs)) where
-  pub tables-short : length old < m → Leaves (fitting (bothTexts rs given n) (length old) (length old')) (Refused (TablesShort m)) old old old' old'
-  unfolding bothTexts fitting
-  tables-short h = refused-as (rw tables (sym (rw (lt-ltb (length old) (length (normalText rs)) (omega arith)))))
-
-  module _ (room : m ≤ length old) {k : ℕ} (answers : k ≡ length (answersText given n)) where
-    pub answers-short : length old' < k → Leaves (fitting (bothTexts rs given n) (length old) (length old')) (Refused (AnswersShort k)) old old old' old'
-    unfolding bothTexts fitting
-    answers-short h =
-        refused-as (rw answers (sym (rw (le-ltb (length old) (length (normalText rs)) (omega arith), lt-ltb (length old') (length (answersText given n)) (omega arith)))))
-
-    pub both-written : k ≤ length old' → {a b : ℕ} {new new' : List ℕ} → Put (normalText rs) 0 old a new → Put (answersText given n) 0 old' b new'
-        → Leaves (fitting (bothTexts rs given n) (length old) (length old')) (Lengths a b) old new old' new'
-    unfolding bothTexts fitting
-    both-written room' {a} {b} p q =
-        let e : a ≡ length (normalText rs) = omega (arith, p .after) in
-        let f : b ≡ length (answersText given n) = omega (arith, q .after) in
-        leaves-as {y = inr (bothTexts rs given n)}
-        (sym (rw (le-ltb (length old) (length (normalText rs)) (omega arith), le-ltb (length old') (length (answersText given n)) (omega arith)) refl))
-        (record {
-          answer = ap₂ Lengths e f;
-          tables = put-whole p (omega arith) ∙ ap (λ (i : ℕ). normalText rs ++ drop i old) e;
-          answers = put-whole q (omega arith) ∙ ap (λ (i : ℕ). answersText given n ++ drop i old') f;
-        })
+use Rattle.replay.specs.Types.{Refusal, Event, Trace, Row, Rows, Ran, ReplayAnswer, Refused}
+use Rattle.writing.specs.Writing.{Replayed, bothTexts, fitting, Leaves}
+use Rattle.writing.proofs.Leaving.{leaves-as, refused-as}
+use Rattle.replay.specs.Replay.{textsOf, ranFrom, unless, ordered, onward, replayed, replayAnswer, tablesAfter, answersAfter}
 
 -- ---- the run: 41 never
 module _ (es : List Event) (o : List ℕ) (start : Rows) (ran : Ran) (runs : RunsTo es o start ran) (few : start .len ≤ 256) (short : length o ≤ 256) where

@@ -18,7 +18,8 @@ use Rattle.schedule.proofs.Accepted.{accepted-iff}
 use Rattle.running.specs.Running.{runRows}
 use Rattle.running.proofs.EndTables.{run-length}
 use Rattle.replay.specs.Types.{Refusal, TablesShort, AnswersShort, Event, Row}
-use Rattle.replay.specs.Replay.{Replayed, textsOf, fitting, ranFrom, ordered, replayed, replayAnswer, tablesAfter, answersAfter, answerOf, tablesIn, answersAt, LongEnough, Writes}
+use Rattle.writing.specs.Writing.{Replayed, fitting, answerOf, tablesIn, answersAt}
+use Rattle.replay.specs.Replay.{textsOf, ranFrom, ordered, replayed, replayAnswer, tablesAfter, answersAfter, LongEnough, Writes}
 
 module _ (s t o : List ℕ) (es : List Event) (rs : List Row) (trace : readTrace s ≡ inr es) (tables : readTables t ≡ inr rs) (order : orderRefusal es o ≡ none) where
   -- at most 512 entries are held at the end

@@ -22,7 +22,8 @@ use Rattle.running.specs.Running.{operationAt, runRows, answersIn, givenOr}
 use Rattle.running.proofs.EndTables.{run-tables, run-answers, run-sorted}
 use Rattle.replay.specs.Types.{Event, Row}
 use Rattle.replay.specs.Allowed.{recorded, Allowed}
-use Rattle.replay.specs.Replay.{bothTexts, textsOf}
+use Rattle.writing.specs.Writing.{bothTexts}
+use Rattle.replay.specs.Replay.{textsOf}
 
 module _ (es : List Event) (o : List ℕ) (allowed : Allowed es o) where
   keeps-before : (i j : ℕ) → i < j → j < length es → before es i j ≡ true → stands i j o ≡ true

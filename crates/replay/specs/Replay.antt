@@ -2,38 +2,21 @@
 use mathlib.Core.Path.{_≡_}
 use mathlib.Core.Bool.{cond}
 use mathlib.Core.Option.{Option, none, some}
-use mathlib.Core.List.{List, _++_}
+use mathlib.Core.List.{List}
 use mathlib.Core.Logic.{_⊎_, inl, inr}
 use Prim.Native.Nat.{ℕ}
 use lib.Dec.{ltb}
-use lib.ListN.{length, drop}
+use lib.ListN.{length}
 use Rattle.trace.specs.TraceText.{readTrace}
 use Rattle.rules.specs.TableText.{readTables}
-use Rattle.rules.specs.Normal.{normalText}
 use Rattle.schedule.specs.Schedule.{orderRefusal}
 use Rattle.running.specs.Running.{runRows, answersIn}
-use Rattle.answers.specs.Answers.{answersText}
-use Rattle.replay.specs.Types.{Refusal, TooManyEntries, TablesShort, AnswersShort, Answer, Event, Row, ReplayAnswer, Lengths, Refused}
-
--- what a replay writes: the normalised end tables, and the answers by rising event
-pub record Replayed : Type 0 where
-  pub tables : List ℕ
-  pub answers : List ℕ
-
--- both texts, of the end rows and the answers of the events below n
-unfoldable pub bothTexts : List Row → (ℕ → Answer) → ℕ → Replayed
-bothTexts rs given n = record { tables = normalText rs; answers = answersText given n }
+use Rattle.writing.specs.Writing.{Replayed, bothTexts, fitting, answerOf, startingWith, tablesIn, answersAt}
+use Rattle.replay.specs.Types.{Refusal, TooManyEntries, TablesShort, AnswersShort, Event, Row, ReplayAnswer, Lengths}
 
 -- both texts, of an order of the events from the rows of a table text
 unfoldable pub textsOf : List Event → List ℕ → List Row → Replayed
 textsOf es o rs = bothTexts (runRows es o rs) (answersIn es o rs) (length es)
-
--- 32 where the tables buffer is too short, then 33 where the answers buffer is: the bytes needed
-unfoldable pub fitting : Replayed → ℕ → ℕ → Refusal ⊎ Replayed
-fitting x room room' =
-    cond (ltb room (length (x .tables))) (inl (TablesShort (length (x .tables))))
-    (cond (ltb room' (length (x .answers))) (inl (AnswersShort (length (x .answers))))
-    (inr x))
 
 -- 41 where more than 512 entries are held at the end; then 32, 33
 unfoldable pub ranFrom : List Event → List Row → List ℕ → ℕ → ℕ → Refusal ⊎ Replayed
@@ -60,24 +43,6 @@ replayed trace tables o room room' =
     onward (readTrace trace) (λ es. onward (readTables tables) (λ rs. ordered es rs o room room'))
 
 -- ---- the call
--- its answer: both lengths, or the refusal
-abbrev pub answerOf : Refusal ⊎ Replayed → ReplayAnswer
-answerOf (inl r) = Refused r
-answerOf (inr x) = Lengths (length (x .tables)) (length (x .answers))
-
--- a buffer with a text from its start; the bytes past it unchanged
-abbrev pub startingWith : List ℕ → List ℕ → List ℕ
-startingWith text old = text ++ drop (length text) old
-
--- the two buffers afterwards; after a refusal both as they were
-abbrev pub tablesIn : Refusal ⊎ Replayed → List ℕ → List ℕ
-tablesIn (inl r) old = old
-tablesIn (inr x) old = startingWith (x .tables) old
-
-abbrev pub answersAt : Refusal ⊎ Replayed → List ℕ → List ℕ
-answersAt (inl r) old = old
-answersAt (inr x) old = startingWith (x .answers) old
-
 unfoldable pub replayAnswer : List ℕ → List ℕ → List ℕ → ℕ → ℕ → ReplayAnswer
 replayAnswer trace tables o room room' = answerOf (replayed trace tables o room room')
 
@@ -86,12 +51,6 @@ tablesAfter trace tables o old old' = tablesIn (replayed trace tables o (length 
 
 unfoldable pub answersAfter : List ℕ → List ℕ → List ℕ → List ℕ → List ℕ → List ℕ
 answersAfter trace tables o old old' = answersAt (replayed trace tables o (length old) (length old')) old'
-
--- an answer and two buffers, before and after, are as a replay leaves them
-pub record Leaves (y : Refusal ⊎ Replayed) (r : ReplayAnswer) (old new old' new' : List ℕ) : Type 0 where
-  pub answer : r ≡ answerOf y
-  pub tables : new ≡ tablesIn y old
-  pub answers : new' ≡ answersAt y old'
 
 -- buffers are long enough if neither 32 nor 33 applies
 pub record LongEnough (trace tables o : List ℕ) (room room' : ℕ) : Type 0 where

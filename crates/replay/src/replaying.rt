@@ -1,19 +1,20 @@
 // The replay of a trace: the checks in their order, then the run.
-use crate::answer::ReplayAnswer;
-use crate::writing::write_both;
 use events::Trace;
 use refusals::Refusal;
 use rows::Rows;
 use rules::Outcome as TablesOutcome;
 use schedule::ScheduleAnswer;
 use trace::Outcome;
+use writing::ReplayAnswer;
+use writing::write_both;
 ghost use mathlib.Core.Path.{_≡_};
 ghost use Prim.Native.Nat.{_≤_};
 ghost use lib.ListN.{length};
 ghost use Rattle.events.specs.Events.{eventsOf};
 ghost use Rattle.rows.specs.Rows.{rowsOf};
 ghost use Rattle.rules.specs.TableText.{readTables};
-ghost use Rattle.replay.specs.Replay.{ranFrom, ordered, onward, Leaves, replayAnswer, tablesAfter, answersAfter};
+ghost use Rattle.writing.specs.Writing.{Leaves};
+ghost use Rattle.replay.specs.Replay.{ranFrom, ordered, onward, replayAnswer, tablesAfter, answersAfter};
 
 // An accepted order, run from the rows of the tables: 41, 32, 33, or both texts.
 fn run_order(

@@ -3,7 +3,7 @@
 // its own; `small` all 120 orders of five events, and orders that are none; `full` 256 events on 256 entries.
 use input::Input;
 use libc::STDOUT_FILENO;
-use replay::ReplayAnswer;
+use writing::ReplayAnswer;
 ghost use Rattle.io.specs.Counts.{Counts};
 
 // An answer: both texts, or the refusal.
@@ -82,7 +82,7 @@ fn replay_shorter<'a>(trace: &'a [u8], tables: &'a [u8], order: &[u8]) {
 }
 
 fn replay_recorded<'a>(trace: &'a [u8], tables: &'a [u8]) {
-    let order = replay::recorded_order();
+    let order = schedule::recorded_order();
     let recorded = lines::front(&order, lines::count_lines(trace));
     io::write_all(STDOUT_FILENO, b"order recorded\n");
     replay_order(trace, tables, recorded);

@@ -3,7 +3,7 @@
 use input::Input;
 use libc::STDERR_FILENO;
 use libc::STDOUT_FILENO;
-use replay::ReplayAnswer;
+use writing::ReplayAnswer;
 ghost use Rattle.io.specs.Counts.{Counts};
 
 // Reads the file that an argument names.
@@ -37,7 +37,7 @@ fn print_replay<'a>(trace: &'a [u8], tables: &'a [u8], order: &[u8]) {
 
 // In the recorded order of a trace with so many lines.
 fn print_recorded<'a>(trace: &'a [u8], tables: &'a [u8]) {
-    let order = replay::recorded_order();
+    let order = schedule::recorded_order();
     print_replay(
         trace,
         tables,

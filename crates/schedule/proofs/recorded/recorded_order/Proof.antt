@@ -5,8 +5,8 @@ use mathlib.Core.Path.{_≡_, refl, _∙_}
 use lib.ListN.{length, getD, set, length-set}
 use lib.Seq.{getD-set-same, getD-set-other}
 use borrow.Author.Count.{below-more}
-use Rattle.replay.proofs.recorded.recorded_order.Statement.{statement}
-use Rattle.replay.proofs.recorded.recorded_order.Tie as tie
+use Rattle.schedule.proofs.recorded.recorded_order.Statement.{statement}
+use Rattle.schedule.proofs.recorded.recorded_order.Tie as tie
 
 abbrev Inv-loop : tie.InvT-loop
 Inv-loop order₀ i₀ order i = (i ≤ 256) × (length order ≡ 256) × ((k : ℕ) → k < i → getD order k 0 ≡ k)

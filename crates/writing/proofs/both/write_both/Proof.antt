@@ -1,7 +1,7 @@
-use Rattle.replay.proofs.Leaving.{tables-short, answers-short, both-written}
+use Rattle.writing.proofs.Leaving.{tables-short, answers-short, both-written}
 use borrow.Author.Needs.{needs}
-use Rattle.replay.proofs.writing.write_both.Statement.{statement}
-use Rattle.replay.proofs.writing.write_both.Tie as tie
+use Rattle.writing.proofs.both.write_both.Statement.{statement}
+use Rattle.writing.proofs.both.write_both.Tie as tie
 
 returns : tie.Need-returns
 returns c = tables-short _ _ _ _ _ (c .before .normal-length .ensures) (c .if1 .taken)

@@ -7,7 +7,7 @@ ghost use Prim.Native.Nat.{_≤_};
 ghost use lib.ListN.{length};
 ghost use Rattle.rows.specs.Rows.{rowsOf};
 ghost use Rattle.answers.specs.Answers.{keptAt};
-ghost use Rattle.replay.specs.Replay.{bothTexts, fitting, Leaves};
+ghost use Rattle.writing.specs.Writing.{bothTexts, fitting, Leaves};
 
 // Both texts, each from its buffer's start; nothing is written where one of them does not fit.
 pub fn write_both(

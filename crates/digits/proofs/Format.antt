@@ -1,26 +1,29 @@
 -- Laws of text formats: how they combine, and what holds of each.
-use Prim.Native.Nat.{ℕ, _+_, _≤_, _<_}
-use mathlib.Core.Bool.{Bool, true, not, _&&_, false≢true, and-eq-true-iff}
+use Prim.Native.Nat.{ℕ, _+_, _<_, _^_}
 use mathlib.Core.Logic.{_↔_}
 use mathlib.Core.List.{List, [], _∷_, _++_, append-assoc, append-nil}
 use mathlib.Core.Option.{some}
-use mathlib.Core.Path.{_≡_, refl, sym, _∙_, ap}
+use mathlib.Core.Path.{_≡_, refl, sym, _∙_}
 use native.Mathlib.Nat.{zero-add}
 use native.Mathlib.Omega.{arith}
-use borrow.Author.Tests.{not-true}
-use lib.Dec.{leb, eqb}
-use lib.ListN.{length, getD, drop, length-append, length-drop}
+use lib.ListN.{length, drop, length-append}
 use lib.Seq.{drop-drop, drop-length}
 use Rattle.digits.specs.Reading.{Reader, startsWith, andThen, mapped, keyed, both}
-use Rattle.digits.specs.Number.{isDigit}
+use Rattle.digits.specs.Number.{isDigit, readNumber}
 pub use Rattle.digits.specs.Format.{Ends, Follows, Format}
 use Rattle.digits.proofs.Readers.{nothing, same-value, same-place, on-cond, on-read, behind}
-use Rattle.digits.proofs.Keys.{starts-self, starts-key, keyed-read}
+use Rattle.digits.proofs.Numbers.{number-format}
+use Rattle.digits.proofs.Keys.{starts-self, starts-key, past-key}
 
 -- the end of a text ends it
-pub ends-nil : Ends []
+ends-nil : Ends []
 unfolding isDigit
 ends-nil = record { digit = refl; comma = refl }
+
+-- and so does a space
+pub space-ends : (w : List ℕ) → Ends (32 ∷ w)
+unfolding isDigit
+space-ends w = record { digit = refl; comma = refl }
 
 -- the place after a value, said of the texts
 module _ (a b : List ℕ) (at : ℕ) where
@@ -36,8 +39,8 @@ module _ {A : Type 0} {ok : A → Type 0} {print : A → List ℕ} {read : Reade
   keyed-reads : (a : A) → ok a → (s : List ℕ) (at : ℕ) (rest : List ℕ) → Ends rest → drop at s ≡ (key ++ print a) ++ rest
       → keyed key read s at ≡ some (a, at + length (key ++ print a))
   keyed-reads a o s at rest e h =
-      keyed-read key read s at (rw (h, append-assoc) (starts-self key (print a ++ rest)))
-      ∙ format .reads a o s (at + length key) rest e (rest-of key (print a) at s rest h)
+      sym (past-key key s at refl read (rw (h, append-assoc) (starts-self key (print a ++ rest)))
+      (sym (format .reads a o s (at + length key) rest e (rest-of key (print a) at s rest h))))
       ∙ rw (after-both key (print a) at)
 
   keyed-only : (s : List ℕ) (at : ℕ) (a : A) (n : ℕ) → keyed key read s at ≡ some (a, n)
@@ -50,6 +53,10 @@ module _ {A : Type 0} {ok : A → Type 0} {print : A → List ℕ} {read : Reade
 
   pub keyed-format : Format ok (λ a. key ++ print a) (keyed key read)
   keyed-format = record { reads = keyed-reads; only = keyed-only }
+
+-- a number that was read behind a key is as small as its largest
+pub keyed-below : (max bound : ℕ) (key s : List ℕ) (at : ℕ) {v n : ℕ} → max < bound → max < 10 ^ 10 → keyed key (readNumber max) s at ≡ some (v, n) → v < bound
+keyed-below max bound key s at b h e = omega (arith, keyed-format key (number-format max h) .only s at _ _ e .0)
 
 -- ---- the same texts for the values of another type
 module _ {A B : Type 0} {ok : A → Type 0} {ok′ : B → Type 0} {print : A → List ℕ} {read : Reader A} (f : B → A) (g : A → B)
@@ -105,39 +112,8 @@ both-format follows first second =
     tagged (λ p. p .0) (λ p o. o .0) (λ p. follows (p .1)) first
     (λ a o. along (λ p. p .1) (λ b. (a, b)) (λ p o. (o .0 .1, rw (o .1))) (λ b o′. (((o, o′), refl), refl)) second)
 
--- ---- texts that may stand behind any other
--- a byte that ends a text, such as a space or a slash: it is there, and neither a digit nor a comma
-abbrev pub stops : ℕ → Bool
-stops b = not (leb 48 b && leb b 57) && not (eqb b 44) && not (eqb b 0)
-
--- a key that begins so, and any text behind it
-pub keyed-ends : {A : Type 0} (print : A → List ℕ) (key : List ℕ) → stops (getD key 0 0) ≡ true → Follows (λ a. key ++ print a)
-unfolding isDigit
-keyed-ends print [] h a rest e = absurd (false≢true h)
-keyed-ends print (k ∷ key) h a rest e =
-    let (dc, z) = and-eq-true-iff (not (leb 48 k && leb k 57) && not (eqb k 44)) (not (eqb k 0)) .0 h in
-    let (d, c) = and-eq-true-iff (not (leb 48 k && leb k 57)) (not (eqb k 44)) .0 dc in
-    record { digit = not-true _ d; comma = not-true _ c }
-
--- two of them in a row
-pub both-ends : {A B : Type 0} (print : A → List ℕ) (print′ : B → List ℕ) → Follows print → Follows print′
-    → Follows (λ (p : A × B). print (p .0) ++ print′ (p .1))
-both-ends print print′ f g p rest e = rw append-assoc (f (p .0) (print′ (p .1) ++ rest) (g (p .1) rest e))
-
 -- ---- what holds of each format
 module _ {A : Type 0} {ok : A → Type 0} {print : A → List ℕ} {read : Reader A} (format : Format ok print read) where
-  -- what was read from a place of the text lies within it
-  pub next-bound : (s : List ℕ) (at : ℕ) (a : A) (n : ℕ) → read s at ≡ some (a, n) → at ≤ length s → n ≤ length s
-  next-bound s at a n e h =
-      let (o, t, l) = format .only s at a n e in
-      omega (arith, simp (length-append, length-drop) at (ap length t))
-
-  -- and so it does from any place, where the text has a byte at least
-  pub text-bound : (s : List ℕ) (at : ℕ) (a : A) (n : ℕ) → read s at ≡ some (a, n) → 0 < length (print a) → n ≤ length s
-  text-bound s at a n e h =
-      let (o, t, l) = format .only s at a n e in
-      omega (arith, simp (length-append, length-drop) at (ap length t))
-
   -- a whole text reads as a value just where it is that value's text
   pub whole : (s : List ℕ) (a : A) → (read s 0 ≡ some (a, length s)) ↔ (ok a × (s ≡ print a))
   whole s a = (to, from)

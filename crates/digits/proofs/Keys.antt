@@ -2,15 +2,15 @@
 use Prim.Native.Nat.{ℕ, _+_, _-_, _≤_, _<_}
 use mathlib.Core.Bool.{Bool, true, false, cond, false≢true}
 use mathlib.Core.List.{List, [], _∷_, _++_}
-use mathlib.Core.Option.{none}
-use mathlib.Core.Path.{_≡_, refl, ap}
+use mathlib.Core.Option.{Option, none, some}
+use mathlib.Core.Path.{_≡_, refl, sym, _∙_, ap}
 use native.Mathlib.Numerals.{add-one}
 use native.Mathlib.Omega.{arith}
 use borrow.Author.Tests.{eq-eqb, ne-eqb, eqb-true}
 use lib.Dec.{eqb}
 use lib.ListN.{length, getD, drop, drop-of-length-le, length-append, length-drop}
 use lib.Seq.{drop-cons}
-use Rattle.digits.specs.Reading.{Reader, startsWith, keyed}
+use Rattle.digits.specs.Reading.{Reader, startsWith, onRead, andThen, mapped, keyed, wordOr, both}
 use Rattle.digits.proofs.Readers.{on-cond}
 
 -- a text begins with a key that stands in front of it
@@ -26,10 +26,6 @@ starts-key [] s e = refl
 starts-key (k ∷ key) [] e = absurd (false≢true e)
 starts-key (k ∷ key) (b ∷ s) e =
     on-cond (eqb b k) (λ q p. rw (eqb-true b k q) (ap (λ (l : List ℕ). k ∷ l) (starts-key key s p))) (λ q p. absurd (false≢true p)) e
-
--- a key that stands at a place of a text lies within it
-pub key-room : (key s : List ℕ) (at : ℕ) → startsWith key (drop at s) ≡ true → length key ≤ length s - at
-key-room key s at e = omega (arith, simp (length-append, length-drop) at (ap length (starts-key key (drop at s) e)))
 
 both-ways : (t : Bool) {u : Bool} → u ≡ false → cond t u false ≡ false
 both-ways true e = e
@@ -60,12 +56,39 @@ module _ (key s : List ℕ) (i : ℕ) where
     unfolding startsWith
     starts-more e = rw (drop-cons key i 0, drop-cons s i 0 within, eq-eqb _ _ e, add-one)
 
--- a key, and then a value
-module _ {A : Type 0} (key : List ℕ) (read : Reader A) (s : List ℕ) (at : ℕ) where
-  pub keyed-other : startsWith key (drop at s) ≡ false → keyed key read s at ≡ none
-  unfolding keyed
-  keyed-other e = rw e
+-- what a test found of a key at a place of a text
+module _ (key s : List ℕ) (at : ℕ) {found : Bool} (e : found ≡ startsWith key (drop at s)) where
+  -- the key lies within the text
+  pub key-room : found ≡ true → length key ≤ length s - at
+  key-room f = omega (arith, simp (length-append, length-drop) at (ap length (starts-key key (drop at s) (sym e ∙ f))))
 
-  pub keyed-read : startsWith key (drop at s) ≡ true → keyed key read s at ≡ read s (at + length key)
-  unfolding keyed
-  keyed-read e = rw e
+  -- a key, and then a value
+  module _ {A : Type 0} (read : Reader A) where
+    pub no-key : found ≡ false → none ≡ keyed key read s at
+    unfolding keyed
+    no-key f = rw (← e, f)
+
+    pub past-key : {x : Option (A × ℕ)} → found ≡ true → x ≡ read s (at + length key) → x ≡ keyed key read s at
+    unfolding keyed
+    past-key f p = rw (← e, f) p
+
+  -- a word that stands for one value
+  module _ {A : Type 0} (a : A) (other : Reader A) where
+    pub word-there : found ≡ true → some (a, at + length key) ≡ wordOr key a other s at
+    unfolding wordOr
+    word-there f = rw (← e, f) refl
+
+    pub no-word : {x : Option (A × ℕ)} → found ≡ false → x ≡ other s at → x ≡ wordOr key a other s at
+    unfolding wordOr
+    no-word f p = rw (← e, f) p
+
+-- a key in front of two values in a row is a key in front of the first
+pub keyed-both : {A B C : Type 0} (f : A × B → C) (first : Reader A) (second : Reader B) (key s : List ℕ) (at : ℕ)
+    → keyed key (mapped f (both first second)) s at ≡ mapped f (both (keyed key first) second) s at
+unfolding keyed mapped both andThen
+keyed-both f first second key s at = by-key (startsWith key (drop at s))
+  where
+    by-key : (t : Bool) → cond t (mapped f (both first second) s (at + length key)) none
+        ≡ onRead (onRead (cond t (first s (at + length key)) none) (λ a. mapped (λ b. (a, b)) second s)) (λ p n. some (f p, n))
+    by-key true = refl
+    by-key false = refl

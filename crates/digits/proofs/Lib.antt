@@ -5,3 +5,4 @@ pub mod Numbers
 pub mod Hex
 pub mod Writing
 pub mod Format
+pub mod Words

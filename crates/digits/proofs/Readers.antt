@@ -7,7 +7,7 @@ use mathlib.Core.Path.{_≡_, refl, sym, _∙_, ap}
 use native.Mathlib.Nat.{add-zero}
 use lib.ListN.{length, getD, drop}
 use lib.Seq.{drop-append-seam, drop-drop, getD-drop}
-use Rattle.digits.specs.Reading.{onRead}
+use Rattle.digits.specs.Reading.{Reader, onRead, andThen, mapped, both}
 
 -- nothing is no value
 pub nothing : {A P : Type 0} {a : A} → none ≡ some a → P
@@ -43,6 +43,32 @@ here s at = sym (getD-drop at s 0 0 ∙ rw add-zero)
 -- what a reader's answer says, where the answer is known
 pub seen : {R X : Type 0} (view : R → X) {r y : R} {x : X} → view r ≡ x → r ≡ y → x ≡ view y
 seen view p q = sym p ∙ ap view q
+
+-- what is made of a value that was read
+module _ {A B : Type 0} (f : A → B) (read : Reader A) (s : List ℕ) (at : ℕ) where
+  pub mapped-none : read s at ≡ none → none ≡ mapped f read s at
+  unfolding mapped
+  mapped-none e = rw e refl
+
+  pub mapped-some : {a : A} {n : ℕ} → read s at ≡ some (a, n) → some (f a, n) ≡ mapped f read s at
+  unfolding mapped
+  mapped-some e = rw e refl
+
+-- what is made in two steps is made in one
+pub twice : {A B C : Type 0} (f : B → C) (g : A → B) (h : A → C) → ((a : A) → f (g a) ≡ h a) → (r : Option (A × ℕ))
+    → onRead r (λ a n. some (h a, n)) ≡ onRead (onRead r (λ a n. some (g a, n))) (λ b n. some (f b, n))
+twice f g h e none = refl
+twice f g h e (some r) = ap (λ c. some (c, r .1)) (sym (e (r .0)))
+
+-- what is made of two values in a row: the second is read behind the first
+module _ {A B C : Type 0} (f : A × B → C) (read : Reader A) (second : Reader B) (s : List ℕ) (at : ℕ) where
+  pub both-none : read s at ≡ none → none ≡ mapped f (both read second) s at
+  unfolding mapped both andThen
+  both-none e = rw e refl
+
+  pub both-some : {a : A} {n : ℕ} {x : Option (C × ℕ)} → read s at ≡ some (a, n) → x ≡ mapped (λ b. f (a, b)) second s n → x ≡ mapped f (both read second) s at
+  unfolding mapped both andThen
+  both-some {a} {n} e p = p ∙ rw e (twice f (λ b. (a, b)) (λ b. f (a, b)) (λ b. refl) (second s n))
 
 -- what a test gave that a call made of a known value
 pub tested : {A B : Type 0} (test : A → B) {a b : A} {r v : B} → a ≡ b → r ≡ test a → r ≡ v → test b ≡ v

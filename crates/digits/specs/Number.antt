@@ -7,6 +7,7 @@ use lib.ListN.{getD, drop}
 use lib.Dec.{ltb, leb, eqb}
 use Rattle.digits.specs.Reading.{Reader}
 use Rattle.digits.specs.declared.read.Number.{Number}
+use Rattle.digits.specs.declared.read.Hex.{Hex}
 
 -- `0` to `9`
 unfoldable pub isDigit : ℕ → Bool
@@ -43,7 +44,11 @@ readHexDigits (suc k) v s at =
 unfoldable pub readHex : Reader ℕ
 readHex = readHexDigits 8 0
 
--- what the enum says: the value and the place after it, or nothing
+-- what each enum says: the value and the place after it, or nothing
 abbrev pub asNumber : Number → Option (ℕ × ℕ)
 asNumber (Number.Read v n) = some (v, n)
 asNumber Number.Bad = none
+
+abbrev pub asHex : Hex → Option (ℕ × ℕ)
+asHex (Hex.Read v n) = some (v, n)
+asHex Hex.Bad = none

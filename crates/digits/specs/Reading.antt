@@ -34,6 +34,10 @@ module _ {A B : Type 0} where
 unfoldable pub keyed : {A : Type 0} → List ℕ → Reader A → Reader A
 keyed key read s at = cond (startsWith key (drop at s)) (read s (at + length key)) none
 
+-- a word that stands for one value; where it does not stand, another reader
+unfoldable pub wordOr : {A : Type 0} → List ℕ → A → Reader A → Reader A
+wordOr word a other s at = cond (startsWith word (drop at s)) (some (a, at + length word)) (other s at)
+
 -- two values in a row
 unfoldable pub both : {A B : Type 0} → Reader A → Reader B → Reader (A × B)
 both first second = andThen first (λ a. mapped (λ b. (a, b)) second)

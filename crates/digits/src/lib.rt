@@ -7,6 +7,7 @@ pub use put::put_byte;
 pub use put::put_bytes;
 pub use put::put_hex;
 pub use put::put_number;
+pub use read::Hex;
 pub use read::Number;
 pub use read::hex_at;
 pub use read::number_at;

@@ -4,10 +4,16 @@ use crate::text::starts_with;
 ghost use mathlib.Core.Path.{_≡_};
 ghost use lib.ListN.{drop};
 ghost use Rattle.digits.specs.Reading.{keyed};
-ghost use Rattle.digits.specs.Number.{isDigit, readDigits, readNumber, hexValue, readHex, asNumber};
+ghost use Rattle.digits.specs.Number.{isDigit, readDigits, readNumber, hexValue, readHex, asNumber, asHex};
 
 // A number that was read and the place after it, or no such number.
 pub enum Number {
+    Read { value: u16, next: usize },
+    Bad,
+}
+
+// Eight hexadecimal digits that were read and the place after them, or no such digits.
+pub enum Hex {
     Read { value: u32, next: usize },
     Bad,
 }
@@ -19,7 +25,7 @@ fn is_digit(b: u8) -> bool
 }
 
 // The digits from a place on; none as soon as their value is above max.
-fn read_digits(s: &[u8], at: usize, max: u32) -> Number
+fn read_digits(s: &[u8], at: usize, max: u16) -> Number
     ensures { λ r. ⌜ asNumber r ≡ readDigits max 0 (drop at (now (s .entry))) at ⌝ }
 {
     let m = max as u64;
@@ -35,19 +41,19 @@ fn read_digits(s: &[u8], at: usize, max: u32) -> Number
             i = i + 1;
         } else {
             return Number::Read {
-                value: v as u32,
+                value: v as u16,
                 next: i,
             };
         }
     }
     Number::Read {
-        value: v as u32,
+        value: v as u16,
         next: i,
     }
 }
 
 // A decimal number without leading zeros, at most max.
-pub fn read_number(s: &[u8], at: usize, max: u32) -> Number
+pub fn read_number(s: &[u8], at: usize, max: u16) -> Number
     ensures { λ r. ⌜ asNumber r ≡ readNumber max (now (s .entry)) at ⌝ }
 {
     let first = byte_at(s, at);
@@ -79,8 +85,8 @@ fn hex_value(b: u8) -> u8
 }
 
 // Eight lowercase hexadecimal digits.
-pub fn read_hex(s: &[u8], at: usize) -> Number
-    ensures { λ r. ⌜ asNumber r ≡ readHex (now (s .entry)) at ⌝ }
+pub fn read_hex(s: &[u8], at: usize) -> Hex
+    ensures { λ r. ⌜ asHex r ≡ readHex (now (s .entry)) at ⌝ }
 {
     let mut v: u32 = 0;
     let mut n = at;
@@ -89,17 +95,17 @@ pub fn read_hex(s: &[u8], at: usize) -> Number
         let b = byte_at(s, n);
         let d = hex_value(b);
         if 15 < d {
-            return Number::Bad;
+            return Hex::Bad;
         }
         v = v * 16 + d as u32;
         n = n + 1;
         i = i + 1;
     }
-    Number::Read { value: v, next: n }
+    Hex::Read { value: v, next: n }
 }
 
 // A key, and then a number.
-pub fn number_at(s: &[u8], at: usize, key: &[u8], max: u32) -> Number
+pub fn number_at(s: &[u8], at: usize, key: &[u8], max: u16) -> Number
     ensures { λ r. ⌜ asNumber r ≡ keyed (now (key .entry)) (readNumber max) (now (s .entry)) at ⌝ }
 {
     if starts_with(s, at, key) {
@@ -109,11 +115,11 @@ pub fn number_at(s: &[u8], at: usize, key: &[u8], max: u32) -> Number
 }
 
 // A key, and then eight hexadecimal digits.
-pub fn hex_at(s: &[u8], at: usize, key: &[u8]) -> Number
-    ensures { λ r. ⌜ asNumber r ≡ keyed (now (key .entry)) readHex (now (s .entry)) at ⌝ }
+pub fn hex_at(s: &[u8], at: usize, key: &[u8]) -> Hex
+    ensures { λ r. ⌜ asHex r ≡ keyed (now (key .entry)) readHex (now (s .entry)) at ⌝ }
 {
     if starts_with(s, at, key) {
         return read_hex(s, at + key.len());
     }
-    Number::Bad
+    Hex::Bad
 }

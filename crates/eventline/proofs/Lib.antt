@@ -1,6 +1,4 @@
 pub mod WordLaws
-pub mod TokenListLaws
-pub mod TokenListFormat
 pub mod LineLaws
 pub mod OperationFormat
 pub mod LineFormat

@@ -12,18 +12,17 @@ use Rattle.digits.specs.Number.{isDigit}
 use Rattle.digits.specs.Format.{Follows, Format}
 use Rattle.digits.proofs.Readers.{nothing, on-cond}
 use Rattle.digits.proofs.Numbers.{number-format}
-use Rattle.digits.proofs.Format.{keyed-format, along, tagged, both-format, whole}
-use Rattle.fields.proofs.MatchFormats.{space-ends}
+use Rattle.digits.proofs.Format.{space-ends, keyed-format, along, tagged, both-format, whole}
+use Rattle.tokenlists.proofs.TokenListFormat.{tokens-format}
 use Rattle.eventline.specs.Types.{Event, Word}
-use Rattle.eventline.specs.EventLine.{evKey, doKey, inKey, outKey, wordOf, printBehind, printEvent, printLine, readBehind, readItems, readNumbered, atEnd, readLine}
+use Rattle.eventline.specs.EventLine.{evKey, doKey, inKey, outKey, wordOf, printBehind, printEvent, printLine, readParts, readBehind, readItems, readNumbered, atEnd, readLine}
 use Rattle.eventline.specs.Written.{EventWritten}
 use Rattle.eventline.proofs.WordLaws.{word-format}
-use Rattle.eventline.proofs.TokenListFormat.{tokens-format}
 use Rattle.eventline.proofs.OperationFormat.{operation-format, operation-follows}
 
 -- what stands behind a word
 behind-format : (w : Word) → Format (λ e. EventWritten e × (wordOf (e .operation) ≡ w)) printBehind (readBehind w)
-unfolding printBehind readBehind
+unfolding printBehind readParts readBehind
 behind-format w =
     along (λ (e : Event). (e .ins, (e .outs, e .operation))) _
     (λ e o. ((o .0 .ins, (o .0 .outs, (o .0 .operation, o .1))), refl))

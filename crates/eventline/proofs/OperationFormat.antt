@@ -10,12 +10,12 @@ use Rattle.digits.specs.Reading.{Reader, onRead, andThen, mapped, both}
 use Rattle.digits.specs.Format.{Ends, Follows, Format}
 use Rattle.digits.proofs.Readers.{same-value, same-place, on-read}
 use Rattle.digits.proofs.Numbers.{number-format}
-use Rattle.digits.proofs.Format.{keyed-format, both-format}
+use Rattle.digits.proofs.Format.{space-ends, keyed-format, both-format}
 use Rattle.flow.specs.Matches.{PacketInRange}
 use Rattle.fields.specs.Print.{printMatch, printPacket, printKey, printEntry}
 use Rattle.fields.specs.Read.{readMatch, readPacket, readKey, readEntry}
 use Rattle.fields.specs.Written.{MatchWritten, KeyWritten, EntryWritten}
-use Rattle.fields.proofs.MatchFormats.{space-ends, match-follows, match-format, packet-follows, packet-format}
+use Rattle.fields.proofs.MatchFormats.{match-follows, match-format, packet-follows, packet-format}
 use Rattle.fields.proofs.EntryFormats.{key-follows, key-format, entry-follows, entry-format}
 use Rattle.eventline.specs.declared.words.Word.the-variants as W
 use Rattle.eventline.specs.Types.{Match, Packet, Key, Entry, Lookup, Add, AddChecked, ModifyStrict, Modify, DeleteStrict, Delete, Operation, Other, Barrier, Message, OnTable, Word}

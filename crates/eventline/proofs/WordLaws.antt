@@ -6,30 +6,19 @@ use mathlib.Core.Option.{Option, none, some}
 use Prim.Native.Nat.{ℕ, _+_}
 use lib.ListN.{length, drop}
 use lib.Seq.{drop-drop}
-use Rattle.digits.specs.Reading.{startsWith}
+use Rattle.digits.specs.Reading.{Reader, startsWith, wordOr}
 use Rattle.digits.specs.Format.{Format}
 use Rattle.digits.proofs.Readers.{nothing, same-value, same-place, on-cond}
 use Rattle.digits.proofs.Keys.{starts-key}
 use Rattle.eventline.specs.declared.words.Word.{Word}
 use Rattle.eventline.specs.declared.words.Word.the-variants as W
-use Rattle.eventline.specs.Words.{wordText, wordOr, readOneOf, readWord}
+use Rattle.eventline.specs.Words.{wordText, readOneOf, readWord}
 
--- the answers of ten tries, from the last word to the first
-module _ (s : List ℕ) (at : ℕ) where
-  pub ten-tries : {a b c d e f g h i j : Option (Word × ℕ)}
-      → a ≡ wordOr (wordText W.Delete) W.Delete none s at
-      → b ≡ wordOr (wordText W.DeleteStrict) W.DeleteStrict a s at
-      → c ≡ wordOr (wordText W.Modify) W.Modify b s at
-      → d ≡ wordOr (wordText W.ModifyStrict) W.ModifyStrict c s at
-      → e ≡ wordOr (wordText W.AddChecked) W.AddChecked d s at
-      → f ≡ wordOr (wordText W.Add) W.Add e s at
-      → g ≡ wordOr (wordText W.Packet) W.Packet f s at
-      → h ≡ wordOr (wordText W.Message) W.Message g s at
-      → i ≡ wordOr (wordText W.Barrier) W.Barrier h s at
-      → j ≡ wordOr (wordText W.Other) W.Other i s at
-      → j ≡ readWord s at
-  unfolding readWord readOneOf
-  ten-tries p₁ p₂ p₃ p₄ p₅ p₆ p₇ p₈ p₉ p = rw (p, p₉, p₈, p₇, p₆, p₅, p₄, p₃, p₂, p₁) refl
+-- a word before another reader, whose answer is known
+pub next-word : (word : List ℕ) (w : Word) (other : Reader Word) (s : List ℕ) (at : ℕ) {x y : Option (Word × ℕ)} → y ≡ other s at
+    → x ≡ wordOr word w (λ t n. y) s at → x ≡ wordOr word w other s at
+unfolding wordOr
+next-word word w other s at e p = p ∙ rw e
 
 -- each word's text reads as the word
 word-reads : (w : Word) (s : List ℕ) (at : ℕ) (rest : List ℕ) → drop at s ≡ wordText w ++ rest → readWord s at ≡ some (w, at + length (wordText w))

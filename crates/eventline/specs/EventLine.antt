@@ -16,10 +16,10 @@ use Rattle.fields.specs.Print.{printMatch, printPacket, printKey, printEntry}
 use Rattle.fields.specs.Read.{readMatch, readPacket, readKey, readEntry}
 use Rattle.fields.specs.Written.{clearKey, clearEntry}
 use Rattle.events.specs.Events.{tokensOf}
+use Rattle.tokenlists.specs.TokenLists.{printTokens, readTokens}
 use Rattle.eventline.specs.declared.words.Word.the-variants as W
-use Rattle.eventline.specs.Types.{Refusal, TraceMalformed, EventMisnumbered, TraceAddressBit, TableOperation, Lookup, Add, AddChecked, ModifyStrict, Modify, DeleteStrict, Delete, Operation, Other, Barrier, Message, OnTable, Entry, Event, Word, Write, OperationRead, EventRead}
+use Rattle.eventline.specs.Types.{Refusal, TraceMalformed, EventMisnumbered, TraceAddressBit, TableOperation, Lookup, Add, AddChecked, ModifyStrict, Modify, DeleteStrict, Delete, Operation, Other, Barrier, Message, OnTable, Entry, Tokens, Event, Word, Write, OperationRead, EventRead}
 use Rattle.eventline.specs.Words.{wordText, readWord}
-use Rattle.eventline.specs.TokenLists.{printTokens, readTokens}
 
 -- `ev=`
 abbrev pub evKey : List ℕ
@@ -43,7 +43,7 @@ swKey = 32 ∷ 115 ∷ 119 ∷ 61 ∷ []
 
 -- ---- printing
 -- the word of an operation
-abbrev pub tableWord : TableOperation → Word
+abbrev tableWord : TableOperation → Word
 tableWord (Lookup p) = W.Packet
 tableWord (Add e) = W.Add
 tableWord (AddChecked e) = W.AddChecked
@@ -59,7 +59,7 @@ wordOf (Message w) = W.Message
 wordOf (OnTable w o) = tableWord o
 
 -- for `pkt` the six fields; for writes prio, those six, act (`dels` has no act; `deln` neither prio nor act)
-abbrev pub printTable : TableOperation → List ℕ
+abbrev printTable : TableOperation → List ℕ
 printTable (Lookup p) = printPacket p
 printTable (Add e) = printEntry e
 printTable (AddChecked e) = printEntry e
@@ -98,7 +98,7 @@ unfoldable pub readSwitch : Reader ℕ
 readSwitch = keyed swKey (readNumber 15)
 
 -- the operations of the four words with an entry
-unfoldable pub writeOf : Write → Entry → TableOperation
+abbrev pub writeOf : Write → Entry → TableOperation
 writeOf Write.Add e = Add e
 writeOf Write.AddChecked e = AddChecked e
 writeOf Write.ModifyStrict e = ModifyStrict e
@@ -131,9 +131,14 @@ readOperation W.DeleteStrict s at = andThen readSwitch (readOn W.DeleteStrict) s
 readOperation W.Delete s at = andThen readSwitch (readOn W.Delete) s at
 
 -- what stands behind a word
+unfoldable pub readParts : Word → Reader (Tokens × (Tokens × Operation))
+readParts w = both (keyed inKey readTokens) (both (keyed outKey readTokens) (readOperation w))
+
+abbrev pub eventOf : Tokens × (Tokens × Operation) → Event
+eventOf (ins, (outs, operation)) = record { ins = ins; outs = outs; operation = operation }
+
 unfoldable pub readBehind : Word → Reader Event
-readBehind w = mapped (λ (ins, (outs, operation)). record { ins = ins; outs = outs; operation = operation })
-    (both (keyed inKey readTokens) (both (keyed outKey readTokens) (readOperation w)))
+readBehind w = mapped eventOf (readParts w)
 
 unfoldable pub readItems : Reader Event
 readItems = andThen (keyed doKey readWord) readBehind

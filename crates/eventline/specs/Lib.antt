@@ -1,5 +1,4 @@
 pub mod Types
 pub mod Words
-pub mod TokenLists
 pub mod EventLine
 pub mod Written

@@ -1,10 +1,8 @@
 -- Document 01, "Trace text": the words of `do`.
-use mathlib.Core.Bool.{cond}
 use mathlib.Core.List.{List, [], _∷_}
 use mathlib.Core.Option.{Option, none, some}
-use Prim.Native.Nat.{ℕ, _+_}
-use lib.ListN.{length, drop}
-use Rattle.digits.specs.Reading.{Reader, startsWith}
+use Prim.Native.Nat.{ℕ}
+use Rattle.digits.specs.Reading.{Reader, wordOr}
 use Rattle.eventline.specs.declared.words.Word.{Word}
 use Rattle.eventline.specs.declared.words.Word.the-variants as W
 use Rattle.eventline.specs.declared.words.WordRead.{WordRead}
@@ -22,20 +20,16 @@ wordText W.Modify = 109 ∷ 111 ∷ 100 ∷ 110 ∷ 32 ∷ []
 wordText W.DeleteStrict = 100 ∷ 101 ∷ 108 ∷ 115 ∷ 32 ∷ []
 wordText W.Delete = 100 ∷ 101 ∷ 108 ∷ 110 ∷ 32 ∷ []
 
--- a word where its text stands at the place, else another answer
-unfoldable pub wordOr : List ℕ → Word → Option (Word × ℕ) → Reader Word
-wordOr text w other s at = cond (startsWith text (drop at s)) (some (w, at + length text)) other
-
 -- the first of some words whose text stands at the place
 unfoldable pub readOneOf : List Word → Reader Word
-readOneOf [] s at = none
-readOneOf (w ∷ ws) s at = wordOr (wordText w) w (readOneOf ws s at) s at
+readOneOf [] = λ s at. none
+readOneOf (w ∷ ws) = wordOr (wordText w) w (readOneOf ws)
 
-abbrev pub allWords : List Word
+abbrev allWords : List Word
 allWords = W.Other ∷ W.Barrier ∷ W.Message ∷ W.Packet ∷ W.Add ∷ W.AddChecked ∷ W.ModifyStrict ∷ W.Modify ∷ W.DeleteStrict ∷ W.Delete ∷ []
 
 unfoldable pub readWord : Reader Word
-readWord s at = readOneOf allWords s at
+readWord = readOneOf allWords
 
 -- what the enum says
 abbrev pub asWord : WordRead → Option (Word × ℕ)

@@ -6,8 +6,8 @@ use Rattle.fields.specs.Written.{MatchWritten, KeyWritten, EntryWritten}
 use Rattle.table.specs.FlowTable.{effectOf}
 use Rattle.commute.specs.Commuting.{EffectInRange}
 use Rattle.orders.specs.Tables.{switchOf}
+use Rattle.tokenlists.specs.TokenLists.{TokensWritten}
 use Rattle.eventline.specs.Types.{TableOperation, Lookup, Add, AddChecked, ModifyStrict, Modify, DeleteStrict, Delete, Operation, Other, Barrier, Message, OnTable, Event}
-use Rattle.eventline.specs.TokenLists.{TokensWritten}
 
 abbrev pub TableWritten : TableOperation → Type 0
 TableWritten (Lookup p) = PacketInRange p

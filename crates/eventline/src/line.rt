@@ -2,16 +2,18 @@
 use crate::checks::checked;
 use crate::operation::OperationRead;
 use crate::operation::operation_at;
-use crate::tokens::TokensRead;
-use crate::tokens::tokens_at;
+use crate::words::Word;
 use crate::words::WordRead;
 use crate::words::word_at;
 use digits::Number;
 use digits::number_at;
 use events::Event;
 use refusals::Refusal;
+use tokenlists::TokensRead;
+use tokenlists::tokens_at;
 ghost use mathlib.Core.Path.{_≡_};
-ghost use Rattle.eventline.specs.EventLine.{readEvent, asEvent};
+ghost use Rattle.digits.specs.Reading.{mapped};
+ghost use Rattle.eventline.specs.EventLine.{readParts, eventOf, atEnd, onLine, readEvent, asEvent};
 
 // The event of a line, or its refusal.
 pub enum EventRead {
@@ -29,7 +31,14 @@ pub fn event_line(s: &[u8], line: usize) -> EventRead
     let WordRead::Read { value: word, next } = word_at(s, next) else {
         return EventRead::Refused(Refusal::TraceMalformed(line));
     };
-    let TokensRead::Read { value: ins, next } = tokens_at(s, next, b"in=") else {
+    event_behind(s, next, line, ev as usize, word)
+}
+
+// The event behind a line's number and word: `in`, `out` and the operation, to the line's end.
+fn event_behind(s: &[u8], at: usize, line: usize, number: usize, word: Word) -> EventRead
+    ensures { λ r. ⌜ asEvent r ≡ onLine line (atEnd (now (s .entry)) (mapped (λ p. (number, eventOf p)) (readParts word) (now (s .entry)) at)) ⌝ }
+{
+    let TokensRead::Read { value: ins, next } = tokens_at(s, at, b"in=") else {
         return EventRead::Refused(Refusal::TraceMalformed(line));
     };
     let TokensRead::Read { value: outs, next } = tokens_at(s, next, b" out=") else {
@@ -43,5 +52,5 @@ pub fn event_line(s: &[u8], line: usize) -> EventRead
         outs,
         operation: op,
     };
-    checked(line, ev as usize, event, next == s.len())
+    checked(line, number, event, next == s.len())
 }

@@ -20,7 +20,7 @@ ghost use Rattle.eventline.specs.Types.{Lookup, DeleteStrict, Delete, On
 ghost use Rattle.eventline.specs.EventLine.{writeOf, readOn, readOperation, asOperation};
 
 // Switches are 0 to 15.
-const LAST_SWITCH: u32 = 15;
+const LAST_SWITCH: u16 = 15;
 
 // An operation that was read and the place after it, or no such operation.
 pub enum OperationRead {

@@ -1,8 +1,8 @@
 // The word of `do`, with the space that ends it.
 use digits::starts_with;
 ghost use mathlib.Core.Path.{_≡_};
-ghost use Rattle.digits.specs.Reading.{keyed};
-ghost use Rattle.eventline.specs.Words.{wordOr, readWord, asWord};
+ghost use Rattle.digits.specs.Reading.{keyed, wordOr};
+ghost use Rattle.eventline.specs.Words.{readWord, asWord};
 ghost use Rattle.eventline.specs.EventLine.{doKey};
 
 pub enum Word {
@@ -26,7 +26,7 @@ pub enum WordRead {
 
 // The word where its text stands at the place, else the other answer.
 fn word_or(s: &[u8], at: usize, text: &[u8], value: Word, other: WordRead) -> WordRead
-    ensures { λ r. ⌜ asWord r ≡ wordOr (now (text .entry)) value (asWord other) (now (s .entry)) at ⌝ }
+    ensures { λ r. ⌜ asWord r ≡ wordOr (now (text .entry)) value (λ t n. asWord other) (now (s .entry)) at ⌝ }
 {
     if starts_with(s, at, text) {
         return WordRead::Read {

@@ -5,18 +5,18 @@ use mathlib.Core.List.{List, _++_}
 use mathlib.Core.Logic.{_⊎_, inl, inr}
 use mathlib.Core.Path.{_≡_, refl}
 use native.Mathlib.Omega.{arith}
-use Rattle.digits.specs.Reading.{startsWith, mapped, keyed}
+use Rattle.digits.specs.Reading.{startsWith, mapped, keyed, wordOr}
 use Rattle.digits.specs.Number.{readNumber}
 use Rattle.digits.specs.Print.{printNumber}
 use Rattle.digits.proofs.Numbers.{number-format}
-use Rattle.digits.proofs.Format.{Follows, Format, keyed-format, along, both-format}
+use Rattle.digits.proofs.Format.{Follows, Format, space-ends, keyed-format, along, both-format}
+use Rattle.digits.proofs.Words.{word-format}
 use Rattle.flow.specs.Entries.{ActionInRange}
 use Rattle.fields.specs.Types.{Action, Drop, Controller, Port, Key, Entry}
 use Rattle.fields.specs.Print.{prioKey, actKey, dropWord, controllerWord, outKey, printAction, printKey, printEntry}
-use Rattle.fields.specs.Read.{wordOr, readAction, readKey, readEntry}
+use Rattle.fields.specs.Read.{readAction, readKey, readEntry}
 use Rattle.fields.specs.Written.{KeyWritten, EntryWritten}
-use Rattle.fields.proofs.Words.{word-format}
-use Rattle.fields.proofs.MatchFormats.{space-ends, match-follows, match-format}
+use Rattle.fields.proofs.MatchFormats.{match-follows, match-format}
 
 -- ---- `drop`, `ctl` or `pN`
 abbrev portOf : Action → ℕ

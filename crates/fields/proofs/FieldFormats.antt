@@ -4,17 +4,17 @@ use mathlib.Core.Logic.{_⊎_, inl, inr}
 use mathlib.Core.Path.{_≡_, refl}
 use native.Mathlib.Omega.{arith}
 use Rattle.digits.specs.Reading.{mapped}
-use Rattle.digits.specs.Number.{readNumber}
+use Rattle.digits.specs.Number.{isDigit, readNumber}
 use Rattle.digits.specs.Print.{printNumber}
 use Rattle.digits.proofs.Numbers.{number-format}
 use Rattle.digits.proofs.Hex.{hex-format}
-use Rattle.digits.proofs.Format.{Format, keyed-format, along, both-format, keyed-ends}
+use Rattle.digits.proofs.Format.{Format, keyed-format, along, both-format}
+use Rattle.digits.proofs.Words.{word-format, number-apart}
 use Rattle.flow.specs.Matches.{ExactInRange, exactPoint}
 use Rattle.fields.specs.Types.{Exact, Any, Is, Prefix}
 use Rattle.fields.specs.Print.{anyWord, slashKey, printExact, printPrefix}
 use Rattle.fields.specs.Read.{readExact, readPrefix}
 use Rattle.fields.specs.Written.{PrefixWritten}
-use Rattle.fields.proofs.Words.{word-format, number-apart}
 
 -- ---- `*`, or a number
 -- a field that is a number
@@ -45,9 +45,9 @@ module _ (max : ℕ) (h : max < 10 ^ 10) where
 
 -- ---- an address, and the length
 pub prefix-format : Format PrefixWritten printPrefix readPrefix
-unfolding printPrefix readPrefix
+unfolding printPrefix readPrefix isDigit
 prefix-format =
     along (λ (p : Prefix). (p .value, p .length)) (λ (v, n). record { value = v; length = n })
     (λ p o. ((o .value, o .length), refl)) (λ p o. (record { value = o .0; length = o .1 }, refl))
-    (both-format (keyed-ends printNumber slashKey refl) hex-format
+    (both-format (λ n rest e. record { digit = refl; comma = refl }) hex-format
     (keyed-format slashKey (number-format 32 (omega arith))))

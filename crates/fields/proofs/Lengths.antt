@@ -1,12 +1,10 @@
 -- How long the texts are at most.
-use Prim.Native.Nat.{ℕ, _+_, _≤_}
-use mathlib.Core.List.{List}
+use Prim.Native.Nat.{_≤_}
 use native.Mathlib.Omega.{arith}
 use lib.ListN.{length, length-append}
-use Rattle.digits.specs.Print.{Put}
 use Rattle.digits.proofs.Writing.{print-length, hex-length}
-use Rattle.fields.specs.Types.{Exact, Any, Is, Prefix, Match, Packet, Action, Drop, Controller, Port, Key, Entry}
-use Rattle.fields.specs.Print.{printExact, printPrefix, printMatch, printPacket, printAction, printKey, printEntry}
+use Rattle.fields.specs.Types.{Exact, Any, Is, Prefix, Match, Action, Drop, Controller, Port, Key, Entry}
+use Rattle.fields.specs.Print.{printExact, printPrefix, printLast, printSix, printMatch, printAction, printKey, printEntry}
 
 pub exact-length : (x : Exact) → length (printExact x) ≤ 10
 unfolding printExact
@@ -17,8 +15,8 @@ pub prefix-length : (p : Prefix) → length (printPrefix p) ≤ 19
 unfolding printPrefix
 prefix-length p = rw (length-append, hex-length) (omega (arith, print-length (p .length)))
 
-pub match-length : (m : Match) → length (printMatch m) ≤ 115
-unfolding printMatch
+match-length : (m : Match) → length (printMatch m) ≤ 115
+unfolding printMatch printSix printLast
 match-length m = simp length-append (omega (
   arith,
   exact-length (m .port),
@@ -27,16 +25,6 @@ match-length m = simp length-append (omega (
   exact-length (m .proto),
   exact-length (m .sport),
   exact-length (m .dport),
-))
-
-pub packet-length : (p : Packet) → length (printPacket p) ≤ 93
-unfolding printPacket
-packet-length p = simp (length-append, hex-length) (omega (
-  arith,
-  print-length (p .port),
-  print-length (p .proto),
-  print-length (p .sport),
-  print-length (p .dport),
 ))
 
 pub action-length : (a : Action) → length (printAction a) ≤ 11
@@ -52,7 +40,3 @@ key-length k = simp length-append (omega (arith, print-length (k .priority), mat
 pub entry-length : (e : Entry) → length (printEntry e) ≤ 147
 unfolding printEntry
 entry-length e = simp length-append (omega (arith, key-length (e .key), action-length (e .action)))
-
--- how far a text that is put reaches
-pub put-bound : {w xs ys : List ℕ} {at n : ℕ} (k : ℕ) → Put w at xs n ys → length w ≤ k → n ≤ at + k
-put-bound k p h = omega (arith, p .after)

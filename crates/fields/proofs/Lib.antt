@@ -1,7 +1,5 @@
-pub mod Words
 pub mod FieldFormats
 pub mod MatchFormats
 pub mod EntryFormats
 pub mod Lengths
 pub mod Ranges
-pub mod Steps

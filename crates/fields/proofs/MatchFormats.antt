@@ -1,54 +1,55 @@
 -- The texts of a match and of a packet.
-use Prim.Native.Nat.{ℕ}
-use mathlib.Core.List.{List, _∷_}
+use Prim.Native.Nat.{ℕ, _<_, _^_}
+use mathlib.Core.List.{List}
 use mathlib.Core.Path.{refl}
 use native.Mathlib.Omega.{arith}
-use Rattle.digits.specs.Number.{isDigit}
+use Rattle.digits.specs.Reading.{Reader}
 use Rattle.digits.proofs.Numbers.{number-format}
 use Rattle.digits.proofs.Hex.{hex-format}
-use Rattle.digits.proofs.Format.{Ends, Follows, Format, keyed-format, along, both-format}
+use Rattle.digits.proofs.Format.{Follows, Format, space-ends, keyed-format, along, both-format}
 use Rattle.flow.specs.Matches.{PacketInRange}
 use Rattle.fields.specs.Types.{Match, Packet}
-use Rattle.fields.specs.Print.{portKey, srcKey, dstKey, protoKey, sportKey, dportKey, printMatch, printPacket}
-use Rattle.fields.specs.Read.{readMatch, readPacket}
+use Rattle.fields.specs.Print.{portKey, srcKey, dstKey, protoKey, sportKey, dportKey, printLast, printSix, printMatch, printPacket}
+use Rattle.fields.specs.Read.{readLast, readSix, matchOf, packetOf, readMatch, readPacket}
 use Rattle.fields.specs.Written.{MatchWritten}
 use Rattle.fields.proofs.FieldFormats.{exact-format, prefix-format}
 
--- what begins with a space ends what stands before it
-pub space-ends : (w : List ℕ) → Ends (32 ∷ w)
-unfolding isDigit
-space-ends w = record { digit = refl; comma = refl }
-
 pub match-follows : Follows printMatch
-unfolding printMatch
+unfolding printMatch printSix
 match-follows m rest e = space-ends _
 
 pub packet-follows : Follows printPacket
-unfolding printPacket
+unfolding printPacket printSix
 packet-follows p rest e = space-ends _
+
+-- the six fields, by the formats of a number at most so large and of an address
+module _ {N A : Type 0} {okN : ℕ → N → Type 0} {okA : A → Type 0} {number : N → List ℕ} {address : A → List ℕ} {readN : ℕ → Reader N} {readA : Reader A}
+    (numbers : (max : ℕ) → max < 10 ^ 10 → Format (okN max) number (readN max)) (addresses : Format okA address readA) where
+  six-format : Format
+      (λ (p : N × (A × (A × (N × (N × N))))). okN 65535 (p .0) × (okA (p .1 .0) × (okA (p .1 .1 .0) × (okN 255 (p .1 .1 .1 .0) × (okN 65535 (p .1 .1 .1 .1 .0) × okN 65535 (p .1 .1 .1 .1 .1))))))
+      (λ p. printSix number address (p .0) (p .1 .0) (p .1 .1 .0) (p .1 .1 .1 .0) (p .1 .1 .1 .1 .0) (p .1 .1 .1 .1 .1))
+      (readSix readN readA)
+  unfolding printSix printLast readSix readLast
+  six-format =
+      both-format (λ f rest e. space-ends _) (keyed-format portKey (numbers 65535 (omega arith)))
+      (both-format (λ f rest e. space-ends _) (keyed-format srcKey addresses)
+      (both-format (λ f rest e. space-ends _) (keyed-format dstKey addresses)
+      (both-format (λ f rest e. space-ends _) (keyed-format protoKey (numbers 255 (omega arith)))
+      (both-format (λ f rest e. space-ends _) (keyed-format sportKey (numbers 65535 (omega arith)))
+      (keyed-format dportKey (numbers 65535 (omega arith)))))))
 
 pub match-format : Format MatchWritten printMatch readMatch
 unfolding printMatch readMatch
 match-format =
-    along (λ (m : Match). (m .port, (m .src, (m .dst, (m .proto, (m .sport, m .dport)))))) _
+    along (λ (m : Match). (m .port, (m .src, (m .dst, (m .proto, (m .sport, m .dport)))))) matchOf
     (λ m o. ((o .port, (o .src, (o .dst, (o .proto, (o .sport, o .dport))))), refl))
     (λ f (port, (src, (dst, (proto, (sport, dport))))). (record { port = port; src = src; dst = dst; proto = proto; sport = sport; dport = dport }, refl))
-    (both-format (λ f rest e. space-ends _) (keyed-format portKey (exact-format 65535 (omega arith)))
-    (both-format (λ f rest e. space-ends _) (keyed-format srcKey prefix-format)
-    (both-format (λ f rest e. space-ends _) (keyed-format dstKey prefix-format)
-    (both-format (λ f rest e. space-ends _) (keyed-format protoKey (exact-format 255 (omega arith)))
-    (both-format (λ f rest e. space-ends _) (keyed-format sportKey (exact-format 65535 (omega arith)))
-    (keyed-format dportKey (exact-format 65535 (omega arith))))))))
+    (six-format exact-format prefix-format)
 
 pub packet-format : Format PacketInRange printPacket readPacket
 unfolding printPacket readPacket
 packet-format =
-    along (λ (p : Packet). (p .port, (p .src, (p .dst, (p .proto, (p .sport, p .dport)))))) _
+    along (λ (p : Packet). (p .port, (p .src, (p .dst, (p .proto, (p .sport, p .dport)))))) packetOf
     (λ p o. ((omega arith, (o .src, (o .dst, (omega arith, (omega arith, omega arith))))), refl))
     (λ f (port, (src, (dst, (proto, (sport, dport))))). (record { port = omega arith; src = src; dst = dst; proto = omega arith; sport = omega arith; dport = omega arith }, refl))
-    (both-format (λ f rest e. space-ends _) (keyed-format portKey (number-format 65535 (omega arith)))
-    (both-format (λ f rest e. space-ends _) (keyed-format srcKey hex-format)
-    (both-format (λ f rest e. space-ends _) (keyed-format dstKey hex-format)
-    (both-format (λ f rest e. space-ends _) (keyed-format protoKey (number-format 255 (omega arith)))
-    (both-format (λ f rest e. space-ends _) (keyed-format sportKey (number-format 65535 (omega arith)))
-    (keyed-format dportKey (number-format 65535 (omega arith))))))))
+    (six-format number-format hex-format)

@@ -65,23 +65,21 @@ printExact (Is v) = printNumber v
 unfoldable pub printPrefix : Prefix → List ℕ
 printPrefix p = printHex (p .value) ++ (slashKey ++ printNumber (p .length))
 
-unfoldable pub printMatch : Match → List ℕ
-printMatch m =
-    (portKey ++ printExact (m .port))
-    ++ ((srcKey ++ printPrefix (m .src))
-    ++ ((dstKey ++ printPrefix (m .dst))
-    ++ ((protoKey ++ printExact (m .proto))
-    ++ ((sportKey ++ printExact (m .sport))
-    ++ (dportKey ++ printExact (m .dport))))))
+-- the last three of the six fields, by how a number is printed
+unfoldable pub printLast : {N : Type 0} → (N → List ℕ) → N → N → N → List ℕ
+printLast number proto sport dport = (protoKey ++ number proto) ++ ((sportKey ++ number sport) ++ (dportKey ++ number dport))
 
+-- the six fields, by how a number and an address is printed
+unfoldable pub printSix : {N A : Type 0} → (N → List ℕ) → (A → List ℕ) → N → A → A → N → N → N → List ℕ
+printSix number address port src dst proto sport dport =
+    (portKey ++ number port) ++ ((srcKey ++ address src) ++ ((dstKey ++ address dst) ++ printLast number proto sport dport))
+
+unfoldable pub printMatch : Match → List ℕ
+printMatch m = printSix printExact printPrefix (m .port) (m .src) (m .dst) (m .proto) (m .sport) (m .dport)
+
+-- all exact
 unfoldable pub printPacket : Packet → List ℕ
-printPacket p =
-    (portKey ++ printNumber (p .port))
-    ++ ((srcKey ++ printHex (p .src))
-    ++ ((dstKey ++ printHex (p .dst))
-    ++ ((protoKey ++ printNumber (p .proto))
-    ++ ((sportKey ++ printNumber (p .sport))
-    ++ (dportKey ++ printNumber (p .dport))))))
+printPacket p = printSix printNumber printHex (p .port) (p .src) (p .dst) (p .proto) (p .sport) (p .dport)
 
 -- `drop`, `ctl` or `pN`
 unfoldable pub printAction : Action → List ℕ

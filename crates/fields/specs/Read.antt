@@ -1,18 +1,11 @@
 -- Document 01, "Trace text" and "Tables and replay": reading the parts of a line. That each reader reads the texts of
 -- Print.antt and no others is proved in proofs/.
-use Prim.Native.Nat.{ℕ, _+_}
-use mathlib.Core.Bool.{cond}
-use mathlib.Core.List.{List}
+use Prim.Native.Nat.{ℕ}
 use mathlib.Core.Option.{Option, none, some}
-use lib.ListN.{length, drop}
-use Rattle.digits.specs.Reading.{Reader, startsWith, mapped, keyed, both}
+use Rattle.digits.specs.Reading.{Reader, mapped, keyed, wordOr, both}
 use Rattle.digits.specs.Number.{readNumber, readHex}
 use Rattle.fields.specs.Types.{Exact, Any, Is, Prefix, Match, Packet, Action, Drop, Controller, Port, Key, Entry, ExactRead, PrefixRead, MatchRead, PacketRead, ActionRead, KeyRead, EntryRead}
 use Rattle.fields.specs.Print.{portKey, srcKey, dstKey, protoKey, sportKey, dportKey, prioKey, actKey, anyWord, slashKey, dropWord, controllerWord, outKey}
-
--- a word that stands for one value; where it does not stand, another reader
-unfoldable pub wordOr : {A : Type 0} → List ℕ → A → Reader A → Reader A
-wordOr word a other s at = cond (startsWith word (drop at s)) (some (a, at + length word)) (other s at)
 
 -- `*`, or a number at most max
 unfoldable pub readExact : ℕ → Reader Exact
@@ -22,25 +15,26 @@ readExact max = wordOr anyWord Any (mapped Is (readNumber max))
 unfoldable pub readPrefix : Reader Prefix
 readPrefix = mapped (λ (v, n). record { value = v; length = n }) (both readHex (keyed slashKey (readNumber 32)))
 
--- the six fields of a match
-unfoldable pub readMatch : Reader Match
-readMatch = mapped (λ (port, (src, (dst, (proto, (sport, dport))))). record { port = port; src = src; dst = dst; proto = proto; sport = sport; dport = dport })
-    (both (keyed portKey (readExact 65535))
-    (both (keyed srcKey readPrefix)
-    (both (keyed dstKey readPrefix)
-    (both (keyed protoKey (readExact 255))
-    (both (keyed sportKey (readExact 65535))
-    (keyed dportKey (readExact 65535)))))))
+-- protocol and ports, by how a number at most so large is read
+unfoldable pub readLast : {N : Type 0} → (ℕ → Reader N) → Reader (N × (N × N))
+readLast number = both (keyed protoKey (number 255)) (both (keyed sportKey (number 65535)) (keyed dportKey (number 65535)))
 
--- the six fields of a packet, all exact
+-- the six fields, by how a number and an address is read
+unfoldable pub readSix : {N A : Type 0} → (ℕ → Reader N) → Reader A → Reader (N × (A × (A × (N × (N × N)))))
+readSix number address = both (keyed portKey (number 65535)) (both (keyed srcKey address) (both (keyed dstKey address) (readLast number)))
+
+abbrev pub matchOf : Exact × (Prefix × (Prefix × (Exact × (Exact × Exact)))) → Match
+matchOf (port, (src, (dst, (proto, (sport, dport))))) = record { port = port; src = src; dst = dst; proto = proto; sport = sport; dport = dport }
+
+unfoldable pub readMatch : Reader Match
+readMatch = mapped matchOf (readSix readExact readPrefix)
+
+abbrev pub packetOf : ℕ × (ℕ × (ℕ × (ℕ × (ℕ × ℕ)))) → Packet
+packetOf (port, (src, (dst, (proto, (sport, dport))))) = record { port = port; src = src; dst = dst; proto = proto; sport = sport; dport = dport }
+
+-- all exact
 unfoldable pub readPacket : Reader Packet
-readPacket = mapped (λ (port, (src, (dst, (proto, (sport, dport))))). record { port = port; src = src; dst = dst; proto = proto; sport = sport; dport = dport })
-    (both (keyed portKey (readNumber 65535))
-    (both (keyed srcKey readHex)
-    (both (keyed dstKey readHex)
-    (both (keyed protoKey (readNumber 255))
-    (both (keyed sportKey (readNumber 65535))
-    (keyed dportKey (readNumber 65535)))))))
+readPacket = mapped packetOf (readSix readNumber readHex)
 
 -- `drop`, `ctl` or `pN`
 unfoldable pub readAction : Reader Action

@@ -55,7 +55,7 @@ fn read_action(s: &[u8], at: usize) -> ActionRead
         return ActionRead::Bad;
     };
     ActionRead::Read {
-        value: Action::Port(value as u16),
+        value: Action::Port(value),
         next,
     }
 }
@@ -74,23 +74,15 @@ pub fn action_at(s: &[u8], at: usize) -> ActionRead
 pub fn key_at(s: &[u8], at: usize) -> KeyRead
     ensures { λ r. ⌜ asKey r ≡ readKey (now (s .entry)) at ⌝ }
 {
-    let Number::Read {
-        value: priority,
-        next: n,
-    } = number_at(s, at, b" prio=", 65535)
-    else {
+    let Number::Read { value: n, next } = number_at(s, at, b" prio=", 65535) else {
         return KeyRead::Bad;
     };
-    let MatchRead::Read {
-        value: pattern,
-        next,
-    } = match_at(s, n)
-    else {
+    let MatchRead::Read { value: m, next } = match_at(s, next) else {
         return KeyRead::Bad;
     };
     let value = Key {
-        priority: priority as u16,
-        pattern,
+        priority: n,
+        pattern: m,
     };
     KeyRead::Read { value, next }
 }
@@ -99,17 +91,13 @@ pub fn key_at(s: &[u8], at: usize) -> KeyRead
 pub fn entry_at(s: &[u8], at: usize) -> EntryRead
     ensures { λ r. ⌜ asEntry r ≡ readEntry (now (s .entry)) at ⌝ }
 {
-    let KeyRead::Read {
-        value: key,
-        next: n,
-    } = key_at(s, at)
-    else {
+    let KeyRead::Read { value: key, next } = key_at(s, at) else {
         return EntryRead::Bad;
     };
     let ActionRead::Read {
         value: action,
         next,
-    } = action_at(s, n)
+    } = action_at(s, next)
     else {
         return EntryRead::Bad;
     };

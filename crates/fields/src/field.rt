@@ -1,4 +1,5 @@
 // A field of a match, read from a place of a text and put at a place of a buffer: `*` or a number, and a prefix.
+use digits::Hex;
 use digits::Number;
 use digits::hex_at;
 use digits::number_at;
@@ -11,7 +12,7 @@ use flow::Exact;
 use flow::Prefix;
 ghost use mathlib.Core.Path.{_≡_};
 ghost use mathlib.Core.List.{_++_};
-ghost use Prim.Native.Nat.{_<_, _^_};
+ghost use Prim.Native.Nat.{_+_, _≤_, _<_, _^_};
 ghost use lib.ListN.{length};
 ghost use Rattle.digits.specs.Reading.{keyed};
 ghost use Rattle.digits.specs.Print.{Put};
@@ -39,11 +40,11 @@ fn read_exact(s: &[u8], at: usize, max: u16) -> ExactRead
             next: at + 1,
         };
     }
-    let Number::Read { value, next } = read_number(s, at, max as u32) else {
+    let Number::Read { value, next } = read_number(s, at, max) else {
         return ExactRead::Bad;
     };
     ExactRead::Read {
-        value: Exact::Is(value as u16),
+        value: Exact::Is(value),
         next,
     }
 }
@@ -62,20 +63,16 @@ pub fn exact_at(s: &[u8], at: usize, key: &[u8], max: u16) -> ExactRead
 pub fn prefix_at(s: &[u8], at: usize, key: &[u8]) -> PrefixRead
     ensures { λ r. ⌜ asPrefix r ≡ keyed (now (key .entry)) readPrefix (now (s .entry)) at ⌝ }
 {
-    let Number::Read { value, next: slash } = hex_at(s, at, key) else {
+    let Hex::Read { value, next } = hex_at(s, at, key) else {
         return PrefixRead::Bad;
     };
-    let Number::Read {
-        value: length,
-        next,
-    } = number_at(s, slash, b"/", 32)
-    else {
+    let Number::Read { value: n, next } = number_at(s, next, b"/", 32) else {
         return PrefixRead::Bad;
     };
     PrefixRead::Read {
         value: Prefix {
             value,
-            length: length as u8,
+            length: n as u8,
         },
         next,
     }
@@ -85,6 +82,7 @@ pub fn prefix_at(s: &[u8], at: usize, key: &[u8]) -> PrefixRead
 pub fn put_exact(out: &mut [u8], at: usize, key: &[u8], x: Exact) -> usize
     requires { ⌜ (at < 2 ^ 31) × (length (now key) < 2 ^ 31) ⌝ }
     ensures { λ r. ⌜ Put (now (key .entry) ++ printExact x) at (now (out .entry)) r (now (out .exit)) ⌝ }
+    ensures reach { λ r. ⌜ r ≤ at + length (now (key .entry)) + 10 ⌝ }
 {
     let n = put_bytes(out, at, key);
     match x {
@@ -97,6 +95,7 @@ pub fn put_exact(out: &mut [u8], at: usize, key: &[u8], x: Exact) -> usize
 pub fn put_prefix(out: &mut [u8], at: usize, key: &[u8], p: Prefix) -> usize
     requires { ⌜ (at < 2 ^ 31) × (length (now key) < 2 ^ 30) ⌝ }
     ensures { λ r. ⌜ Put (now (key .entry) ++ printPrefix p) at (now (out .entry)) r (now (out .exit)) ⌝ }
+    ensures reach { λ r. ⌜ r ≤ at + length (now (key .entry)) + 19 ⌝ }
 {
     let value = put_bytes(out, at, key);
     let slash = put_hex(out, value, p.value);

@@ -5,16 +5,21 @@ use crate::field::exact_at;
 use crate::field::prefix_at;
 use crate::field::put_exact;
 use crate::field::put_prefix;
+use digits::Hex;
 use digits::Number;
 use digits::hex_at;
 use digits::number_at;
+use flow::Exact;
 use flow::Match;
 use flow::Packet;
+use flow::Prefix;
 ghost use mathlib.Core.Path.{_≡_};
 ghost use Prim.Native.Nat.{_<_, _^_};
+ghost use Rattle.digits.specs.Number.{readNumber};
+ghost use Rattle.digits.specs.Reading.{mapped};
 ghost use Rattle.digits.specs.Print.{Put};
 ghost use Rattle.fields.specs.Print.{printMatch};
-ghost use Rattle.fields.specs.Read.{readMatch, readPacket, asMatch, asPacket};
+ghost use Rattle.fields.specs.Read.{readExact, readLast, matchOf, packetOf, readMatch, readPacket, asMatch, asPacket};
 
 // A match that was read and the place after it, or no match.
 pub enum MatchRead {
@@ -32,42 +37,29 @@ pub enum PacketRead {
 pub fn match_at(s: &[u8], at: usize) -> MatchRead
     ensures { λ r. ⌜ asMatch r ≡ readMatch (now (s .entry)) at ⌝ }
 {
-    let ExactRead::Read {
-        value: port,
-        next: a,
-    } = exact_at(s, at, b" port=", 65535)
-    else {
+    let ExactRead::Read { value: port, next } = exact_at(s, at, b" port=", 65535) else {
         return MatchRead::Bad;
     };
-    let PrefixRead::Read {
-        value: src,
-        next: b,
-    } = prefix_at(s, a, b" src=")
-    else {
+    let PrefixRead::Read { value: src, next } = prefix_at(s, next, b" src=") else {
         return MatchRead::Bad;
     };
-    let PrefixRead::Read {
-        value: dst,
-        next: c,
-    } = prefix_at(s, b, b" dst=")
-    else {
+    let PrefixRead::Read { value: dst, next } = prefix_at(s, next, b" dst=") else {
         return MatchRead::Bad;
     };
-    let ExactRead::Read {
-        value: proto,
-        next: d,
-    } = exact_at(s, c, b" proto=", 255)
-    else {
+    match_behind(s, next, port, src, dst)
+}
+
+// The last three fields of a match, behind the first three.
+fn match_behind(s: &[u8], at: usize, port: Exact, src: Prefix, dst: Prefix) -> MatchRead
+    ensures { λ r. ⌜ asMatch r ≡ mapped (λ p. matchOf (port, (src, (dst, p)))) (readLast readExact) (now (s .entry)) at ⌝ }
+{
+    let ExactRead::Read { value: proto, next } = exact_at(s, at, b" proto=", 255) else {
         return MatchRead::Bad;
     };
-    let ExactRead::Read {
-        value: sport,
-        next: e,
-    } = exact_at(s, d, b" sport=", 65535)
-    else {
+    let ExactRead::Read { value: sport, next } = exact_at(s, next, b" sport=", 65535) else {
         return MatchRead::Bad;
     };
-    let ExactRead::Read { value: dport, next } = exact_at(s, e, b" dport=", 65535) else {
+    let ExactRead::Read { value: dport, next } = exact_at(s, next, b" dport=", 65535) else {
         return MatchRead::Bad;
     };
     let value = Match {
@@ -85,51 +77,38 @@ pub fn match_at(s: &[u8], at: usize) -> MatchRead
 pub fn packet_at(s: &[u8], at: usize) -> PacketRead
     ensures { λ r. ⌜ asPacket r ≡ readPacket (now (s .entry)) at ⌝ }
 {
-    let Number::Read {
-        value: port,
-        next: a,
-    } = number_at(s, at, b" port=", 65535)
-    else {
+    let Number::Read { value: port, next } = number_at(s, at, b" port=", 65535) else {
         return PacketRead::Bad;
     };
-    let Number::Read {
-        value: src,
-        next: b,
-    } = hex_at(s, a, b" src=")
-    else {
+    let Hex::Read { value: src, next } = hex_at(s, next, b" src=") else {
         return PacketRead::Bad;
     };
-    let Number::Read {
-        value: dst,
-        next: c,
-    } = hex_at(s, b, b" dst=")
-    else {
+    let Hex::Read { value: dst, next } = hex_at(s, next, b" dst=") else {
         return PacketRead::Bad;
     };
-    let Number::Read {
-        value: proto,
-        next: d,
-    } = number_at(s, c, b" proto=", 255)
-    else {
+    packet_behind(s, next, port, src, dst)
+}
+
+// The last three fields of a packet, behind the first three.
+fn packet_behind(s: &[u8], at: usize, port: u16, src: u32, dst: u32) -> PacketRead
+    ensures { λ r. ⌜ asPacket r ≡ mapped (λ p. packetOf (port, (src, (dst, p)))) (readLast readNumber) (now (s .entry)) at ⌝ }
+{
+    let Number::Read { value: proto, next } = number_at(s, at, b" proto=", 255) else {
         return PacketRead::Bad;
     };
-    let Number::Read {
-        value: sport,
-        next: e,
-    } = number_at(s, d, b" sport=", 65535)
-    else {
+    let Number::Read { value: sport, next } = number_at(s, next, b" sport=", 65535) else {
         return PacketRead::Bad;
     };
-    let Number::Read { value: dport, next } = number_at(s, e, b" dport=", 65535) else {
+    let Number::Read { value: dport, next } = number_at(s, next, b" dport=", 65535) else {
         return PacketRead::Bad;
     };
     let value = Packet {
-        port: port as u16,
+        port,
         src,
         dst,
-        proto: proto as u16,
-        sport: sport as u16,
-        dport: dport as u16,
+        proto,
+        sport,
+        dport,
     };
     PacketRead::Read { value, next }
 }

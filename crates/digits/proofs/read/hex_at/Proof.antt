@@ -1,21 +1,14 @@
-use mathlib.Core.Path.{sym, _∙_}
 use native.Mathlib.Omega.{arith}
 use borrow.Author.Needs.{needs}
-use denote.Ref.{now}
-use Rattle.digits.proofs.Keys.{key-room, keyed-other, keyed-read}
+use Rattle.digits.proofs.Keys.{key-room, no-key, past-key}
 use Rattle.digits.proofs.read.hex_at.Statement.{statement}
 use Rattle.digits.proofs.read.hex_at.Tie as tie
 
-add-read-hex : tie.Need-add-read-hex
-add-read-hex c =
-    let a = c .before .before .before .before .args in
-    omega (arith, key-room (now (a .key)) (now (a .s)) (a .at) (sym (c .before .starts-with .ensures) ∙ c .if1 .taken))
-
-returns : tie.Need-returns
-returns c = c .read-hex .ensures ∙ sym (keyed-read _ _ _ _ (sym (c .before .before .starts-with .ensures) ∙ c .before .if1 .taken))
-
-returns-2 : tie.Need-returns-2
-returns-2 c = sym (keyed-other _ _ _ _ (sym (c .before .starts-with .ensures) ∙ c .if1 .left))
-
 pub hex-at-spec : {M : Type 1} → statement M
-hex-at-spec = tie.close (tie.spec (λ c κs. search needs) add-read-hex (λ c κs. search needs) returns returns-2)
+hex-at-spec =
+    tie.close
+    (tie.spec (λ c κs. search needs)
+    (λ c. let a = c .before .before .before .before .args in
+    omega (arith, key-room (a .key .now) (a .s .now) (a .at) (c .before .starts-with .ensures) (c .if1 .taken))) (λ c κs. search needs)
+    (λ c. past-key _ _ _ (c .before .before .starts-with .ensures) _ (c .before .if1 .taken) (c .read-hex .ensures))
+    (λ c. no-key _ _ _ (c .before .starts-with .ensures) _ (c .if1 .left)))

@@ -1,10 +1,9 @@
 use mathlib.Core.Option.{some}
 use mathlib.Core.Path.{_∙_, ap}
 use borrow.Author.Needs.{needs}
-use Rattle.digits.proofs.Readers.{seen}
+use Rattle.digits.proofs.Readers.{seen, mapped-none, mapped-some}
 use Rattle.fields.specs.Read.{asEntry}
 use Rattle.eventline.specs.Types.{OnTable}
-use Rattle.eventline.proofs.LineLaws.{mapped-none, mapped-some}
 use Rattle.eventline.proofs.operation.write_at.Statement.{statement}
 use Rattle.eventline.proofs.operation.write_at.Tie as tie
 

@@ -1,47 +1,19 @@
-use mathlib.Core.Path.{sym}
-use native.Mathlib.Omega.{arith}
 use borrow.Author.Needs.{needs}
-use Rattle.digits.specs.Reading.{andThen, mapped, both}
 use Rattle.digits.specs.Number.{asNumber}
-use Rattle.digits.proofs.Readers.{seen}
-use Rattle.fields.specs.Print.{prioKey}
+use Rattle.digits.proofs.Readers.{seen, mapped-none, mapped-some, both-none, both-some}
 use Rattle.fields.specs.Read.{readKey, asMatch}
-use Rattle.fields.proofs.Steps.{keyed-most}
 use Rattle.fields.proofs.entry.key_at.Statement.{statement}
 use Rattle.fields.proofs.entry.key_at.Tie as tie
 
-returns : tie.Need-returns
-unfolding readKey mapped both andThen
-returns c = sym (rw (seen asNumber (c .before .before .number-at .ensures) (c .enum-told .given .1)))
-
-returns-2 : tie.Need-returns-2
-unfolding readKey mapped both andThen
-returns-2 c =
-    let p₁ = c .before .before .before in
-    sym (rw (
-      seen asNumber (p₁ .before .before .before .number-at .ensures) (p₁ .before .priority .given .1),
-      seen asMatch (c .before .before .match-at .ensures) (c .enum-told2 .given .1),
-    ))
-
-cast-t13 : tie.Need-cast-t13
-cast-t13 c =
-    let p = c .before .before .before .before .before in
-    omega (arith, keyed-most _ _ _ _ _ (omega arith) prioKey (seen asNumber (p .before .before .number-at .ensures) (p .priority .given .1)))
-
-returns-3 : tie.Need-returns-3
-unfolding readKey mapped both andThen
-returns-3 c =
-    let p₁ = c .before .before .before .before in
-    sym (rw (
-      seen asNumber (p₁ .before .before .before .number-at .ensures) (p₁ .before .priority .given .1),
-      seen asMatch (c .before .before .before .match-at .ensures) (c .before .pattern .given .1),
-    ))
-
 pub key-at-spec : {M : Type 1} → statement M
+unfolding readKey
 key-at-spec =
     tie.close
     (tie.spec (λ c. search needs) (λ c κs. search needs) (λ c. search needs) (λ c. search needs)
-    returns (λ c κs. search needs) (λ c. search needs) (λ c. search needs)
-    returns-2
-    cast-t13
-    returns-3)
+    (λ c. both-none _ _ _ _ _ (seen asNumber (c .before .before .number-at .ensures) (c .enum-told .given .1))) (λ c κs. search needs) (λ c. search needs) (λ c. search needs)
+    (λ c. let p = c .before .before .before .before in
+    both-some _ _ _ _ _ (seen asNumber (p .before .before .number-at .ensures) (p .n .given .1))
+    (mapped-none _ _ _ _ (seen asMatch (c .before .before .match-at .ensures) (c .enum-told2 .given .1))))
+    (λ c. let p = c .before .before .before .before .before in
+    both-some _ _ _ _ _ (seen asNumber (p .before .before .number-at .ensures) (p .n .given .1))
+    (mapped-some _ _ _ _ (seen asMatch (c .before .before .before .match-at .ensures) (c .before .m .given .1)))))

@@ -1,24 +1,16 @@
+use native.Mathlib.Omega.{arith}
 use borrow.Author.Needs.{needs}
-use Rattle.digits.proofs.Writing.{put-then}
+use Rattle.digits.proofs.Writing.{put-then, print-length}
 use Rattle.fields.specs.Print.{printExact}
 use Rattle.fields.proofs.field.put_exact.Statement.{statement}
 use Rattle.fields.proofs.field.put_exact.Tie as tie
 
-returns : tie.Need-returns
-unfolding printExact
-returns c =
-    let arm = c .before .before .before .before .before in
-    rw (arm .enum-told .given .1) (put-then (arm .before .before .before .before .put-bytes .ensures) (c .before .before .put-bytes2 .ensures))
-
-returns-2 : tie.Need-returns-2
-unfolding printExact
-returns-2 c =
-    let arm = c .before .before .before .before .before in
-    rw (arm .x .given .1) (put-then (arm .before .before .before .before .put-bytes .ensures) (c .before .before .put-number .ensures))
-
 pub put-exact-spec : {M : Type 1} → statement M
+unfolding printExact
 put-exact-spec =
     tie.close
     (tie.spec (λ c κs. search needs) (λ c. search needs) (λ c. search needs) (λ c κs. search needs) (λ c. search needs) (λ c. search needs) (λ c κs. search needs) (λ c. search needs)
-    returns (λ c. search needs)
-    returns-2)
+    (λ c. let arm = c .before .before .before .before .before in
+    (rw (arm .enum-told .given .1) (put-then (arm .before .before .before .before .put-bytes .ensures) (c .before .before .put-bytes2 .ensures)), search needs)) (λ c. search needs)
+    (λ c. let arm = c .before .before .before .before .before in
+    (rw (arm .x .given .1) (put-then (arm .before .before .before .before .put-bytes .ensures) (c .before .before .put-number .ensures)), omega (arith, print-length (arm .x .given .0 .0)))))

@@ -1,6 +1,6 @@
 use native.Mathlib.Omega.{arith}
 use borrow.Author.Needs.{needs}
-use Rattle.digits.proofs.Writing.{put-then, hex-length}
+use Rattle.digits.proofs.Writing.{put-then, print-length, hex-length}
 use Rattle.fields.specs.Print.{printPrefix}
 use Rattle.fields.proofs.field.put_prefix.Statement.{statement}
 use Rattle.fields.proofs.field.put_prefix.Tie as tie
@@ -23,7 +23,11 @@ unfolding printPrefix
 returns c =
     let slash = c .before .before .before .before .before .before .before in
     let hex = slash .before .before .before .before .before in
-    put-then (hex .before .before .before .before .put-bytes .ensures) (put-then (hex .put-hex .ensures) (put-then (slash .put-bytes2 .ensures) (c .before .before .put-number .ensures)))
+    let key = hex .before .before .before .before in
+    let p = key .before .before .before .before .args .p in (
+      put-then (key .put-bytes .ensures) (put-then (hex .put-hex .ensures) (put-then (slash .put-bytes2 .ensures) (c .before .before .put-number .ensures))),
+      omega (arith, key .put-bytes .ensures .after, hex .put-hex .ensures .after, slash .put-bytes2 .ensures .after, hex-length (p .value), print-length (p .length)),
+    )
 
 pub put-prefix-spec : {M : Type 1} → statement M
 put-prefix-spec =

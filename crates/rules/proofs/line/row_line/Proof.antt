@@ -5,8 +5,8 @@ use borrow.Author.Tests.{not-true, not-false, eq-eqb, ne-eqb}
 use Rattle.digits.specs.Reading.{andThen, mapped, both}
 use Rattle.digits.specs.Number.{asNumber}
 use Rattle.digits.proofs.Readers.{seen}
+use Rattle.digits.proofs.Format.{keyed-below}
 use Rattle.fields.specs.Read.{asEntry}
-use Rattle.fields.proofs.Steps.{keyed-most}
 use Rattle.rules.specs.TableText.{switchKey, rowReader, readRow, readLine}
 use Rattle.rules.proofs.line.row_line.Statement.{statement}
 use Rattle.rules.proofs.line.row_line.Tie as tie
@@ -46,7 +46,7 @@ returns-4 c = sym (rw (
 ))
 
 cast-t22 : tie.Need-cast-t22
-cast-t22 c = omega (arith, keyed-most _ _ _ _ _ (omega arith) switchKey (seen asNumber (c .before .before .before .before .before .before .before .before .before .before .before .before .number-at .ensures) (c .before .before .before .before .before .before .before .before .before .before .switch .given .1)))
+cast-t22 c = omega (arith, keyed-below 15 256 switchKey _ _ (omega arith) (omega arith) (seen asNumber (c .before .before .before .before .before .before .before .before .before .before .before .before .number-at .ensures) (c .before .before .before .before .before .before .before .before .before .before .switch .given .1)))
 
 returns-5 : tie.Need-returns-5
 unfolding readLine readRow rowReader mapped both andThen

@@ -9,10 +9,10 @@ use borrow.Author.Tests.{lt-ltb, le-ltb, eq-eqb, ne-eqb}
 use lib.ListN.{length, getD, length-append, List·getD-eq-default}
 use Rattle.digits.specs.Reading.{onRead, mapped, andThen}
 use Rattle.digits.specs.Number.{readNumber}
-use Rattle.digits.proofs.Numbers.{number-only}
+use Rattle.digits.proofs.Readers.{twice}
 use Rattle.events.specs.Events.{tokensOf}
-use Rattle.eventline.specs.Types.{Tokens, NextToken}
-use Rattle.eventline.specs.TokenLists.{nextToken, readMore, readSome, readTokenList, readTokens, tokensFrom}
+use Rattle.tokenlists.specs.Types.{Tokens, NextToken}
+use Rattle.tokenlists.specs.TokenLists.{nextToken, readMore, readSome, readTokenList, readTokens, tokensFrom}
 
 -- a byte that is not 0 stands within the text
 pub byte-in : (s : List ℕ) (i b : ℕ) → getD s i 0 ≡ b → 0 < b → i < length s
@@ -21,10 +21,6 @@ byte-in s i b e h =
       | yes l ↦ l
       | no l ↦ absurd (omega (arith, List·getD-eq-default s 0 {n = i} (omega arith)))
     ]
-
--- a token that was read is a 16-bit number
-pub token-below : (s : List ℕ) (at : ℕ) {v n : ℕ} → readNumber 65535 s at ≡ some (v, n) → v < 65536
-token-below s at e = omega (arith, number-only 65535 s at _ _ (omega arith) e)
 
 -- ---- what follows a token
 module _ (last : ℕ) (s : List ℕ) (at : ℕ) where
@@ -44,24 +40,6 @@ module _ (last : ℕ) (s : List ℕ) (at : ℕ) where
     pub next-above : {v n : ℕ} → readNumber 65535 s (at + 1) ≡ some (v, n) → last < v → nextToken last s at ≡ NextToken.Token v n
     unfolding nextToken
     next-above e l = rw (eq-eqb _ _ c, e, lt-ltb _ _ l)
-
--- ---- one token more
-module _ (s : Tokens) (t : ℕ) where
-  pub first-token : s .count ≡ 0 → record { t0 = t; t1 = 0; t2 = 0; t3 = 0; count = 1 } ≡ tokensFrom (tokensOf s ++ (t ∷ []))
-  unfolding tokensFrom tokensOf
-  first-token e = rw e refl
-
-  pub second-token : s .count ≡ 1 → record { t0 = s .t0; t1 = t; t2 = 0; t3 = 0; count = 2 } ≡ tokensFrom (tokensOf s ++ (t ∷ []))
-  unfolding tokensFrom tokensOf
-  second-token e = rw e refl
-
-  pub third-token : s .count ≡ 2 → record { t0 = s .t0; t1 = s .t1; t2 = t; t3 = 0; count = 3 } ≡ tokensFrom (tokensOf s ++ (t ∷ []))
-  unfolding tokensFrom tokensOf
-  third-token e = rw e refl
-
-  pub fourth-token : s .count ≡ 3 → record { t0 = s .t0; t1 = s .t1; t2 = s .t2; t3 = t; count = 4 } ≡ tokensFrom (tokensOf s ++ (t ∷ []))
-  unfolding tokensFrom tokensOf
-  fourth-token e = rw e refl
 
 -- the numbers of the value of a list
 pub tokens-from : (ts : List ℕ) → length ts ≤ 4 → tokensOf (tokensFrom ts) ≡ ts
@@ -87,11 +65,6 @@ pub record Gathered (s : List ℕ) (at first : ℕ) (tokens : Tokens) (last next
 pub gathered-first : (s : List ℕ) (at first : ℕ) → Gathered s at first (record { t0 = first; t1 = 0; t2 = 0; t3 = 0; count = 1 }) first at
 unfolding tokensFrom
 gathered-first s at first = record { ts = first ∷ []; value = refl; few = omega arith; rest = refl }
-
-mapped-twice : {A B C : Type 0} (f : B → C) (g : A → B) (h : A → C) → ((a : A) → f (g a) ≡ h a) → (r : Option (A × ℕ))
-    → onRead (onRead r (λ a n. some (g a, n))) (λ b n. some (f b, n)) ≡ onRead r (λ a n. some (h a, n))
-mapped-twice f g h e none = refl
-mapped-twice f g h e (some r) = ap (λ c. some (c, r .1)) (e (r .0))
 
 module _ (s : List ℕ) (at first : ℕ) (tokens : Tokens) (last next : ℕ) (g : Gathered s at first tokens last next) where
   count : tokens .count ≡ length (g .ts)
@@ -129,8 +102,8 @@ module _ (s : List ℕ) (at first : ℕ) (tokens : Tokens) (last next : ℕ) (g 
     unfolding readMore mapped
     more-rest v n e =
         rw (left, e)
-        (mapped-twice (λ us. tokensFrom (g .ts ++ us)) (λ us. v ∷ us) (λ us. tokensFrom ((g .ts ++ (v ∷ [])) ++ us))
-        (λ us. ap tokensFrom (sym (append-assoc (g .ts) (v ∷ []) us))) (readMore (3 - length (g .ts)) v s n))
+        (sym (twice (λ us. tokensFrom (g .ts ++ us)) (λ us. v ∷ us) (λ us. tokensFrom ((g .ts ++ (v ∷ [])) ++ us))
+        (λ us. ap tokensFrom (sym (append-assoc (g .ts) (v ∷ []) us))) (readMore (3 - length (g .ts)) v s n)))
 
     pub gathered-more : {v n : ℕ} (more : Tokens) → nextToken last s next ≡ NextToken.Token v n → more ≡ tokensFrom (tokensOf tokens ++ (v ∷ []))
         → Gathered s at first more v n
@@ -164,4 +137,4 @@ module _ (s : List ℕ) (at : ℕ) where
     pub tokens-some : {t n : ℕ} → readNumber 65535 s at ≡ some (t, n) → mapped (λ ts. tokensFrom (t ∷ ts)) (readMore 3 t) s n ≡ readTokens s at
     unfolding readTokens readTokenList readSome mapped andThen
     tokens-some {t} {n} e =
-        rw (ne-eqb _ _ d, e) (sym (mapped-twice tokensFrom (λ ts. t ∷ ts) (λ ts. tokensFrom (t ∷ ts)) (λ ts. refl) (readMore 3 t s n)))
+        rw (ne-eqb _ _ d, e) (twice tokensFrom (λ ts. t ∷ ts) (λ ts. tokensFrom (t ∷ ts)) (λ ts. refl) (readMore 3 t s n))

@@ -3,9 +3,9 @@ use Prim.Native.Nat.{_-_}
 use mathlib.Core.Path.{sym, _∙_}
 use native.Mathlib.Omega.{arith}
 use borrow.Author.Needs.{needs}
-use Rattle.eventline.proofs.TokenListLaws.{Gathered, gathered-first, gathered-more, gathered-end, gathered-bad, gathered-full, count-more}
-use Rattle.eventline.proofs.tokens.read_more.Statement.{statement}
-use Rattle.eventline.proofs.tokens.read_more.Tie as tie
+use Rattle.tokenlists.proofs.TokenListLaws.{Gathered, gathered-first, gathered-more, gathered-end, gathered-bad, gathered-full, count-more}
+use Rattle.tokenlists.proofs.read_more.Statement.{statement}
+use Rattle.tokenlists.proofs.read_more.Tie as tie
 
 abbrev Inv-loop : tie.InvT-loop
 Inv-loop s at first tokens₀ last₀ next₀ tokens last next = Gathered s at first tokens last next

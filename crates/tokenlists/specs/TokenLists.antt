@@ -10,7 +10,7 @@ use Rattle.digits.specs.Reading.{Reader, andThen, mapped}
 use Rattle.digits.specs.Number.{readNumber}
 use Rattle.digits.specs.Print.{printNumber}
 use Rattle.events.specs.Events.{tokensOf}
-use Rattle.eventline.specs.Types.{Tokens, NextToken, TokensRead}
+use Rattle.tokenlists.specs.Types.{Tokens, NextToken, TokensRead}
 
 -- the numbers after the first, each behind a comma
 unfoldable pub printMore : List ℕ → List ℕ

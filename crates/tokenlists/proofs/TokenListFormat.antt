@@ -19,9 +19,9 @@ use Rattle.digits.proofs.Format.{along}
 use Rattle.digits.proofs.Readers.{nothing, same-value, same-place, on-cond, on-read, behind, here}
 use Rattle.digits.proofs.Numbers.{number-reads, number-only, number-none}
 use Rattle.events.specs.Events.{tokensOf}
-use Rattle.eventline.specs.Types.{NextToken}
-use Rattle.eventline.specs.TokenLists.{printMore, printTokens, aboveLast, nextToken, onNext, readMore, readSome, readTokenList, tokensFrom, readTokens, Rising, ListWritten, TokensWritten}
-use Rattle.eventline.proofs.TokenListLaws.{byte-in, next-end, next-above, tokens-from}
+use Rattle.tokenlists.specs.Types.{NextToken}
+use Rattle.tokenlists.specs.TokenLists.{printMore, printTokens, aboveLast, nextToken, onNext, readMore, readSome, readTokenList, tokensFrom, readTokens, Rising, ListWritten, TokensWritten}
+use Rattle.tokenlists.proofs.TokenListLaws.{byte-in, next-end, next-above, tokens-from}
 
 -- a list ends a number before it: what follows is a comma, or the list's own end
 more-digit : (ts rest : List ℕ) → Ends rest → isDigit (getD (printMore ts ++ rest) 0 0) ≡ false
@@ -128,7 +128,7 @@ list-only s at ts n e =
     let (o, u, i) = more-only 3 t s m us j q₁ in
     rw (← x, ← y) ((b, o .0, o .1), w ∙ rw u (sym (append-assoc (printNumber t) (printMore us) (drop j s))), i ∙ rw (z, length-append) (omega arith))) q) p) e
 
-pub list-format : Format ListWritten printTokens readTokenList
+list-format : Format ListWritten printTokens readTokenList
 list-format = record { reads = list-reads; only = list-only }
 
 short : (ts : List ℕ) → ListWritten ts → length ts ≤ 4

@@ -9,7 +9,7 @@ ghost use mathlib.Core.List.{[], _∷_, _++_};
 ghost use Prim.Native.Nat.{_<_};
 ghost use Rattle.digits.specs.Reading.{keyed, mapped};
 ghost use Rattle.events.specs.Events.{tokensOf};
-ghost use Rattle.eventline.specs.TokenLists.{nextToken, readMore, readTokens, tokensFrom, asTokens};
+ghost use Rattle.tokenlists.specs.TokenLists.{nextToken, readMore, readTokens, tokensFrom, asTokens};
 
 // What follows a token: a number above it and the place after that, the list's end, or neither.
 pub enum NextToken {
@@ -35,9 +35,8 @@ fn next_token(s: &[u8], at: usize, last: u16) -> NextToken
     let Number::Read { value, next } = read_number(s, at + 1, 65535) else {
         return NextToken::Bad;
     };
-    let token = value as u16;
-    if last < token {
-        return NextToken::Token { value: token, next };
+    if last < value {
+        return NextToken::Token { value, next };
     }
     NextToken::Bad
 }
@@ -147,7 +146,7 @@ fn read_tokens(s: &[u8], at: usize) -> TokensRead
     let Number::Read { value, next } = read_number(s, at, 65535) else {
         return TokensRead::Bad;
     };
-    read_more(s, next, value as u16)
+    read_more(s, next, value)
 }
 
 // A key, and then tokens.

@@ -10,13 +10,12 @@ use native.Mathlib.Omega.{arith}
 use borrow.Author.Tests.{ne-eqb}
 use lib.ListN.{length, getD, drop}
 use lib.Seq.{drop-drop}
-use Rattle.digits.specs.Reading.{Reader, startsWith}
+use Rattle.digits.specs.Reading.{Reader, startsWith, wordOr}
 use Rattle.digits.specs.Print.{decimal, printNumber}
 use Rattle.digits.specs.Format.{Ends, Format}
 use Rattle.digits.proofs.Readers.{same-value, same-place, on-cond}
 use Rattle.digits.proofs.Keys.{starts-self, starts-key}
 use Rattle.digits.proofs.Print.{decimal-small, decimal-big}
-use Rattle.fields.specs.Read.{wordOr}
 
 -- ---- the word of one value, and a format of all others, none of whose texts begins with the word
 module _ {A : Type 0} {ok ok′ : A → Type 0} {print print′ : A → List ℕ} {other : Reader A} (word : List ℕ) (first : A)

@@ -1,0 +1,2 @@
+pub mod TokenListLaws
+pub mod TokenListFormat

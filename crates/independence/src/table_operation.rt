@@ -1,14 +1,14 @@
 // Which row of the table is for which pair of operations, both ways round.
-use crate::rows::add_add;
-use crate::rows::add_delete;
-use crate::rows::add_delete_strict;
-use crate::rows::add_modify;
-use crate::rows::apart_delete;
-use crate::rows::checked_modify;
-use crate::rows::checked_other;
-use crate::rows::modify_delete_strict;
-use crate::rows::modify_modify;
-use crate::rows::packet_write;
+use commute::rows::add_add;
+use commute::rows::add_delete;
+use commute::rows::add_delete_strict;
+use commute::rows::add_modify;
+use commute::rows::apart_delete;
+use commute::rows::checked_modify;
+use commute::rows::checked_other;
+use commute::rows::modify_delete_strict;
+use commute::rows::modify_modify;
+use commute::rows::packet_write;
 use flow::Entry;
 use flow::Key;
 use flow::Match;
@@ -16,9 +16,9 @@ use flow::Packet;
 use table::TableOperation;
 ghost use mathlib.Core.Path.{_≡_};
 ghost use Rattle.table.specs.FlowTable.{tableEffect, pkt, add, addc, modn, dels, deln};
 ghost use Rattle.commute.specs.Commuting.{commutes};
 
-pub fn packet_with(p: Packet, other: TableOperation) -> bool
+fn packet_with(p: Packet, other: TableOperation) -> bool
     ensures { λ r. ⌜ r ≡ commutes (pkt p) (tableEffect other) ⌝ }
 {
     match other {
@@ -32,7 +32,7 @@ pub fn packet_with(p: Packet, other: TableOperation) -> bool
     }
 }
 
-pub fn add_with(d: Entry, other: TableOperation) -> bool
+fn add_with(d: Entry, other: TableOperation) -> bool
     ensures { λ r. ⌜ r ≡ commutes (add (d .key) (d .action)) (tableEffect other) ⌝ }
 {
     match other {
@@ -46,7 +46,7 @@ pub fn add_with(d: Entry, other: TableOperation) -> bool
     }
 }
 
-pub fn checked_with(d: Entry, other: TableOperation) -> bool
+fn checked_with(d: Entry, other: TableOperation) -> bool
     ensures { λ r. ⌜ r ≡ commutes (addc (d .key) (d .action)) (tableEffect other) ⌝ }
 {
     match other {
@@ -60,7 +60,7 @@ pub fn checked_with(d: Entry, other: TableOperation) -> bool
     }
 }
 
-pub fn modify_with(d: Entry, other: TableOperation) -> bool
+fn modify_with(d: Entry, other: TableOperation) -> bool
     ensures { λ r. ⌜ r ≡ commutes (modn (d .key) (d .action)) (tableEffect other) ⌝ }
 {
     match other {
@@ -74,7 +74,7 @@ pub fn modify_with(d: Entry, other: TableOperation) -> bool
     }
 }
 
-pub fn delete_strict_with(k: Key, other: TableOperation) -> bool
+fn delete_strict_with(k: Key, other: TableOperation) -> bool
     ensures { λ r. ⌜ r ≡ commutes (dels k) (tableEffect other) ⌝ }
 {
     match other {
@@ -88,7 +88,7 @@ pub fn delete_strict_with(k: Key, other: TableOperation) -> bool
     }
 }
 
-pub fn delete_with(m: Match, other: TableOperation) -> bool
+fn delete_with(m: Match, other: TableOperation) -> bool
     ensures { λ r. ⌜ r ≡ commutes (deln m) (tableEffect other) ⌝ }
 {
     match other {
@@ -102,7 +102,7 @@ pub fn delete_with(m: Match, other: TableOperation) -> bool
     }
 }
 
-// Whether two operations of one switch commute.
+// Whether two operations of one table commute.
 pub fn commutes(a: TableOperation, b: TableOperation) -> bool
     ensures { λ r. ⌜ r ≡ commutes (tableEffect a) (tableEffect b) ⌝ }
 {

@@ -19,7 +19,8 @@ use Rattle.events.specs.Events.{eventAt}
 use Rattle.causality.specs.Causality.{before}
 use Rattle.pairs.specs.Types.{Operation, Event, Counts, Verdict, Unpaired, Ordered, Commuting, Listed}
 use Rattle.pairs.specs.List.{Kind, pairs, ordered, commuting, listed, isKind, test, Pair, only, gather, cell, pairsWhere, ofKind, pairBytes, countsOf}
-use Rattle.pairs.specs.Counting.{size, verdictOf, counts, countOf, Small, rowOf}
+use Rattle.verdicts.specs.Verdicts.{verdictOf}
+use Rattle.pairs.specs.Counting.{size, counts, countOf, Small, rowOf}
 
 -- ---- lists gathered from parts
 gather-more : {A : Type 0} (f : ℕ → List A) (n : ℕ) → length (gather f (n + 1)) ≡ length (gather f n) + length (f n)
@@ -75,29 +76,17 @@ write-more a b l s at e =
     put-then p q .bytes ∙ ap (sets l s) (sym (bytes-append a b))
 
 -- ---- arms of a match on a verdict
-pub counted-arm : (k : Kind) {x : ℕ} (y : ℕ) {v form : Verdict} → v ≡ form → x ≡ y + size (counts k form) → x ≡ y + size (counts k v)
-counted-arm k y e h = h ∙ ap (λ (w : Verdict). y + size (counts k w)) (sym e)
+pub counted-arm : (c r : Counts) {v form : Verdict} → v ≡ form
+    → r .pairs ≡ c .pairs + size (counts pairs form) → r .ordered ≡ c .ordered + size (counts ordered form)
+    → r .commuting ≡ c .commuting + size (counts commuting form) → r .listed ≡ c .listed + size (counts listed form)
+    → (k : Kind) → countOf k r ≡ countOf k c + size (counts k v)
+counted-arm c r e p o m l pairs = rw e p
+counted-arm c r e p o m l ordered = rw e o
+counted-arm c r e p o m l commuting = rw e m
+counted-arm c r e p o m l listed = rw e l
 
 pub put-arm : (old : List ℕ) (at : ℕ) (p : Pair) {l : List ℕ} {v form : Verdict} → v ≡ form → l ≡ sets old at (pairBytes (only (counts listed form) p)) → l ≡ sets old at (pairBytes (only (counts listed v) p))
 put-arm old at p e h = h ∙ ap (λ (x : Verdict). sets old at (pairBytes (only (counts listed x) p))) (sym e)
-
--- ---- the paths through the verdict
-module _ (o p : Operation) (h : Bool) {x : Bool} (e : x ≡ paired o p) where
-  pub unpaired : x ≡ false → Unpaired ≡ verdictOf o p h
-  unfolding verdictOf
-  unpaired f = rw (sym e ∙ f) refl
-
-  pub is-ordered : x ≡ true → h ≡ true → Ordered ≡ verdictOf o p h
-  unfolding verdictOf
-  is-ordered f g = rw (sym e ∙ f, g) refl
-
-  pub is-commuting : {m : Bool} → x ≡ true → h ≡ false → m ≡ commutes (effectOf o) (effectOf p) → m ≡ true → Commuting ≡ verdictOf o p h
-  unfolding verdictOf
-  is-commuting f g d k = rw (sym e ∙ f, g, sym d ∙ k) refl
-
-  pub is-listed : {m : Bool} → x ≡ true → h ≡ false → m ≡ commutes (effectOf o) (effectOf p) → m ≡ false → Listed ≡ verdictOf o p h
-  unfolding verdictOf
-  is-listed f g d k = rw (sym e ∙ f, g, sym d ∙ k) refl
 
 -- ---- the counts
 -- where every count is small, they are

@@ -1,8 +1,8 @@
 use borrow.Author.Tests.{not-true, not-false}
-use Rattle.pairs.proofs.PairLaws.{unpaired, is-ordered, is-commuting, is-listed}
+use Rattle.verdicts.proofs.Paths.{unpaired, is-ordered, is-commuting, is-listed}
 use borrow.Author.Needs.{needs}
-use Rattle.pairs.proofs.verdict.verdict_of.Statement.{statement}
-use Rattle.pairs.proofs.verdict.verdict_of.Tie as tie
+use Rattle.verdicts.proofs.verdict.verdict_of.Statement.{statement}
+use Rattle.verdicts.proofs.verdict.verdict_of.Tie as tie
 
 returns : tie.Need-returns
 returns c = unpaired _ _ _ (c .before .is-paired .ensures) (not-true _ (c .if1 .taken))

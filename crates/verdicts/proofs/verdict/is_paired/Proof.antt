@@ -1,7 +1,7 @@
 use Rattle.orders.specs.Tables.{paired}
 use borrow.Author.Needs.{needs}
-use Rattle.pairs.proofs.verdict.is_paired.Statement.{statement}
-use Rattle.pairs.proofs.verdict.is_paired.Tie as tie
+use Rattle.verdicts.proofs.verdict.is_paired.Statement.{statement}
+use Rattle.verdicts.proofs.verdict.is_paired.Tie as tie
 
 pub is-paired-spec : {M : Type 1} → statement M
 is-paired-spec =

@@ -4,7 +4,7 @@ use independence::commute_both;
 use table::Operation;
 ghost use mathlib.Core.Path.{_≡_};
 ghost use Rattle.orders.specs.Tables.{usesTable, paired};
-ghost use Rattle.pairs.specs.Counting.{verdictOf};
+ghost use Rattle.verdicts.specs.Verdicts.{verdictOf};
 
 // No pair; or a pair that is ordered, commuting or listed.
 pub enum Verdict {

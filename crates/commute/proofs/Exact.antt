@@ -7,7 +7,7 @@ use Prim.Native.Nat.{ℕ, max}
 use native.Mathlib.Omega.{arith}
 use lib.Dec.{eqb}
 use borrow.Author.Tests.{eq-eqb, not-false}
-use Rattle.flow.specs.Matches.{fits, within, overlaps, meet}
+use Rattle.flow.specs.Matches.{fits, overlaps, meet}
 use Rattle.flow.specs.Entries.{sameKey, sameAction}
 use Rattle.flow.proofs.Booleans.{split, and-intro, and-cases, or-left, or-right}
 use Rattle.flow.proofs.Field.{within-self, meet-left, meet-right, overlap-sym, within-overlap}
@@ -17,7 +17,7 @@ use Rattle.table.specs.FlowTable.{Table, entry, get, insert, removeIf, assignIf
 use Rattle.table.proofs.TableLaws.{get-insert, get-assign, any-assign, none-some}
 use Rattle.table.proofs.Effects.{addc-yes, modn-yes, modn-no}
 use Rattle.commute.specs.Types.{Match, Packet, Action, Drop, Key, Entry, Done, Hit, Miss}
-use Rattle.commute.specs.Commuting.{Agree, pkt-write, add-add, add-dels, add-deln, add-modn, addc-other, addc-modn, apart-deln, modn-dels, modn-modn, commutes, one, at, witness}
+use Rattle.commute.specs.Commuting.{Agree, add-add, add-dels, add-deln, add-modn, addc-modn, modn-dels, modn-modn, commutes, one, at, witness}
 use Rattle.commute.proofs.Sound.{inside-self, clash-self, agree-sym}
 
 -- a false test that follows from an equation
@@ -66,11 +66,11 @@ gone p k a h = rw h refl
 
 module _ (j : Key) (a : Action) (k : Key) (b : Action) where
   add-add-tell : add-add j a k b ≡ false → Agree (add j a) (add k b) [] → ⊥
-  unfolding add-add after
+  unfolding after
   add-add-tell h g =
-      let e = same-eq j k (not-false (sameKey j k) (or-left (not (sameKey j k)) (sameAction a b) h)) in
+      let e = same-eq j k (not-false (sameKey j k) (or-right (sameAction a b) (not (sameKey j k)) h)) in
       let f : get k (insert j a (insert k b [])) ≡ some a = rw (← e) (get-here j a (insert j b [])) in
-      tell k (g .tables) (get-here k b (insert j a [])) f (λ q. some-differ a b (or-right (not (sameKey j k)) (sameAction a b) h) (sym q))
+      tell k (g .tables) (get-here k b (insert j a [])) f (λ q. some-differ a b (or-left (sameAction a b) (not (sameKey j k)) h) (sym q))
 
   -- only the add's key, against both
   two-tell : sameKey j k ≡ false → assignIf (inside (k .pattern)) b (insert j a []) ≡ insert j a (insert k b []) → ⊥
@@ -81,17 +81,17 @@ module _ (j : Key) (a : Action) (k : Key) (b : Action) where
       tell k e l r none-some
 
   add-modn-tell : add-modn j a k b ≡ false → Agree (add j a) (modn k b) [] → ⊥
-  unfolding add-modn after
+  unfolding after
   add-modn-tell h g =
-      let w = not-false (inside (k .pattern) j) (or-left (not (inside (k .pattern) j)) (sameKey j k && sameAction a b) h) in
+      let w = not-false (inside (k .pattern) j) (or-left (not (inside (k .pattern) j)) (sameAction a b && sameKey j k) h) in
       let e : assignIf (inside (k .pattern)) b (insert j a []) ≡ insert j a (insert k b []) = sym (modn-yes k b (insert j a []) (rw w refl)) ∙ g .tables in
       let l : get j (assignIf (inside (k .pattern)) b (insert j a [])) ≡ some b = get-assign j (inside (k .pattern)) b (insert j a []) ∙ rw (w, get-here j a []) refl in
-      and-cases (sameKey j k) (sameAction a b) (or-right (not (inside (k .pattern) j)) (sameKey j k && sameAction a b) h)
-      (λ d. two-tell d e)
+      and-cases (sameAction a b) (sameKey j k) (or-right (not (inside (k .pattern) j)) (sameAction a b && sameKey j k) h)
       (λ d. tell j e l (get-here j a (insert k b [])) (λ q. some-differ a b d (sym q)))
+      (λ d. two-tell d e)
 
   addc-modn-tell : addc-modn j k ≡ false → Agree (addc j a) (modn k b) [] → ⊥
-  unfolding addc-modn after
+  unfolding after
   addc-modn-tell h g = split (clash j k) (λ c. addc-one j a (entry k b) c (g .first)) calm
     where
       calm : clash j k ≡ false → ⊥
@@ -115,27 +115,21 @@ module _ (j : Key) (a : Action) (k : Key) (b : Action) where
       or-true false u = u
 
   modn-modn-tell : modn-modn j a k b ≡ false → Agree (modn j a) (modn k b) (cond (sameAction a b) [] (one (at (0) (meet (j .pattern) (k .pattern))))) → ⊥
-  unfolding modn-modn after
-  modn-modn-tell h g = split (sameAction a b) (λ c. equal c (rw c at g)) (λ c. unequal c (rw c at g))
+  unfolding after
+  modn-modn-tell h g = split (sameAction a b) (λ c. equal (rw c at h) (rw c at g)) (λ c. unequal c (rw c at g))
     where
-      rest : ((sameAction a b && (not (inside (k .pattern) j) && not (inside (j .pattern) k))) || (sameKey j k && sameAction a b)) ≡ false
-      rest = or-right (not (overlaps (j .pattern) (k .pattern))) ((sameAction a b && (not (inside (k .pattern) j) && not (inside (j .pattern) k))) || (sameKey j k && sameAction a b)) h
+      equal : (not (overlaps (j .pattern) (k .pattern)) || ((not (inside (k .pattern) j) && not (inside (j .pattern) k)) || sameKey j k)) ≡ false
+          → Agree (modn j a) (modn k b) [] → ⊥
+      equal e f =
+          let r = or-right (not (overlaps (j .pattern) (k .pattern))) ((not (inside (k .pattern) j) && not (inside (j .pattern) k)) || sameKey j k) e in
+          let n = or-right (not (inside (k .pattern) j) && not (inside (j .pattern) k)) (sameKey j k) r in
+          and-cases (not (inside (k .pattern) j)) (not (inside (j .pattern) k)) (or-left (not (inside (k .pattern) j) && not (inside (j .pattern) k)) (sameKey j k) r)
+          (λ v. found-tell (not-false (inside (k .pattern) j) v) (sym (same-sym j k) ∙ n) (f .tables))
+          (λ v. Rattle.commute.proofs.Exact.found-tell k b j a (not-false (inside (j .pattern) k) v) n (sym (f .tables)))
 
       o : overlaps (j .pattern) (k .pattern) ≡ true
       o = not-false (overlaps (j .pattern) (k .pattern)) (or-left (not (overlaps (j .pattern) (k .pattern)))
-          ((sameAction a b && (not (inside (k .pattern) j) && not (inside (j .pattern) k))) || (sameKey j k && sameAction a b)) h)
-
-      equal : sameAction a b ≡ true → Agree (modn j a) (modn k b) [] → ⊥
-      equal c f =
-          let n : sameKey j k ≡ false = and-cases (sameKey j k) (sameAction a b)
-          (or-right (sameAction a b && (not (inside (k .pattern) j) && not (inside (j .pattern) k))) (sameKey j k && sameAction a b) rest)
-          (λ u. u) (λ u. absurd (true≢false (sym c ∙ u))) in
-          and-cases (sameAction a b) (not (inside (k .pattern) j) && not (inside (j .pattern) k))
-          (or-left (sameAction a b && (not (inside (k .pattern) j) && not (inside (j .pattern) k))) (sameKey j k && sameAction a b) rest)
-          (λ u. true≢false (sym c ∙ u))
-          (λ u. and-cases (not (inside (k .pattern) j)) (not (inside (j .pattern) k)) u
-          (λ v. found-tell (not-false (inside (k .pattern) j) v) (sym (same-sym j k) ∙ n) (f .tables))
-          (λ v. Rattle.commute.proofs.Exact.found-tell k b j a (not-false (inside (j .pattern) k) v) n (sym (f .tables))))
+          ((sameAction a b && (not (inside (k .pattern) j) && not (inside (j .pattern) k))) || (sameAction a b && sameKey j k)) h)
 
       unequal : sameAction a b ≡ false → Agree (modn j a) (modn k b) (one (at (0) (meet (j .pattern) (k .pattern)))) → ⊥
       unequal c f =
@@ -152,11 +146,11 @@ module _ (j : Key) (a : Action) (k : Key) (b : Action) where
 
 module _ (j : Key) (a : Action) where
   add-dels-tell : (k : Key) → add-dels j k ≡ false → Agree (add j a) (dels k) [] → ⊥
-  unfolding add-dels after
+  unfolding after
   add-dels-tell k h g = tell j (sym (gone (sameKey k) j a (not-false (sameKey k j) h)) ∙ g .tables) refl (get-here j a []) none-some
 
   add-deln-tell : (m : Match) → add-deln j m ≡ false → Agree (add j a) (deln m) [] → ⊥
-  unfolding add-deln after
+  unfolding after
   add-deln-tell m h g = tell j (sym (gone (inside m) j a (not-false (inside m j) h)) ∙ g .tables) refl (get-here j a []) none-some
 
   addc-dels-tell : (k : Key) → clash j k ≡ true → Agree (addc j a) (dels k) (one k) → ⊥
@@ -178,7 +172,7 @@ module _ (j : Key) (a : Action) where
       tell j (sym l ∙ e ∙ r) refl (get-here j a []) none-some
 
   modn-dels-tell : (k : Key) → modn-dels j k ≡ false → Agree (modn j a) (dels k) (one k) → ⊥
-  unfolding modn-dels after
+  unfolding after
   modn-dels-tell k h g = modn-gone-tell (sameKey k) k (not-false (inside (j .pattern) k) h) (same-self k) (g .tables)
 
   modn-deln-tell : (m : Match) → overlaps (j .pattern) m ≡ true → Agree (modn j a) (deln m) (one (at (0) (meet (j .pattern) m))) → ⊥
@@ -217,7 +211,7 @@ addc-addc-tell j a k b h g = addc-one j a (entry k b) h (g .first)
 
 -- where the test says no, the witness tells the two orders apart
 pub commutes-exact : (v w : Effect) → commutes v w ≡ false → Agree v w (witness v w) → ⊥
-unfolding commutes pkt-write addc-other apart-deln witness
+unfolding commutes witness
 commutes-exact idle w h g = true≢false h
 commutes-exact (pkt p) idle h g = true≢false h
 commutes-exact (pkt p) (pkt q) h g = true≢false h

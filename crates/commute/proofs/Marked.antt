@@ -1,7 +1,7 @@
 -- The marked cases of document 01, in one theorem about commuting. What the document leaves open (priorities n and m, actions a and
 -- b, the packet's other fields) is any. Assumes nothing.
 use mathlib.Core.Path.{_≡_, refl, _∙_, ap}
-use mathlib.Core.Bool.{Bool, true, false, and-false}
+use mathlib.Core.Bool.{Bool, true, false}
 use mathlib.Core.List.{List, [], _∷_}
 use Prim.Native.Nat.{ℕ}
 use lib.Dec.{lit<, lit≤}
@@ -11,7 +11,7 @@ use Rattle.flow.proofs.PrefixField.{prefix-clear-means, prefix-fits-leading}
 use Rattle.flow.proofs.Leading.{overlaps-by-bits, within-by-bits, other-destination}
 use Rattle.table.specs.FlowTable.{pkt, add, addc, modn, dels, deln}
 use Rattle.commute.specs.Types.{Match, Packet, Any, Is, Action, Port}
-use Rattle.commute.specs.Commuting.{at, commutes, pkt-write, add-add, add-dels, add-deln, add-modn, addc-other, addc-modn, apart-deln, modn-dels, modn-modn}
+use Rattle.commute.specs.Commuting.{at, commutes}
 
 -- A: dst 0a000000/8; B: dst 0a010000/16; D: dport 80; else any
 abbrev pub A : Match
@@ -99,5 +99,5 @@ to-0b p e = other-destination A p (ap (λ x. prefixFits (A .dst) x) e ∙ prefix
 
 pub marked : (n m : ℕ) (a b : Action) (p : Packet) → p .dst ≡ 0x0b000000
     → verdicts n m a b p ≡ true ∷ true ∷ true ∷ true ∷ true ∷ true ∷ false ∷ false ∷ false ∷ false ∷ false ∷ false ∷ false ∷ []
-unfolding commutes pkt-write add-add add-dels add-deln add-modn addc-other addc-modn apart-deln modn-dels modn-modn sameKey keyOrder matchOrder rank orderOf thenBy sameAction
-marked n m a b p e = rw (A-over-A, B-over-A, A-over-D, D-over-A, A-over-B, A-in-D, D-in-A, A-in-B, B-in-A, to-0b p e, and-false (sameKey (at n A) (at m D))) refl
+unfolding commutes sameKey keyOrder matchOrder rank orderOf thenBy sameAction
+marked n m a b p e = rw (A-over-A, B-over-A, A-over-D, D-over-A, A-over-B, A-in-D, D-in-A, A-in-B, B-in-A, to-0b p e) refl

@@ -14,20 +14,20 @@ use Rattle.table.specs.FlowTable.{Table, Sorted, get, insert, removeIf, assignI
 use Rattle.table.proofs.TableLaws.{sorted-insert, sorted-remove, sorted-assign, get-insert, get-remove, get-assign, any-insert, any-assign, any-remove, any-none, table-ext}
 use Rattle.table.proofs.Effects.{addc-no, addc-yes, modn-yes, modn-no, sorted-after}
 use Rattle.commute.specs.Types.{Match, Packet, Action, Key, Done}
-use Rattle.commute.specs.Commuting.{Agree, pkt-write, add-add, add-dels, add-deln, add-modn, addc-other, addc-modn, apart-deln, modn-dels, modn-modn, commutes}
+use Rattle.commute.specs.Commuting.{Agree, add-add, add-dels, add-deln, add-modn, addc-modn, modn-dels, modn-modn, commutes}
 
 -- the three changes of a table, two at a time
-pub insert-insert : (j k : Key) (a b : Action) → sameKey j k ≡ false → (t : Table) → Sorted t → insert k b (insert j a t) ≡ insert j a (insert k b t)
+insert-insert : (j k : Key) (a b : Action) → sameKey j k ≡ false → (t : Table) → Sorted t → insert k b (insert j a t) ≡ insert j a (insert k b t)
 insert-insert j k a b h t s = table-ext (insert k b (insert j a t)) (insert j a (insert k b t))
     (sorted-insert k b (insert j a t) (sorted-insert j a t s)) (sorted-insert j a (insert k b t) (sorted-insert k b t s))
     (λ i. simp get-insert (cond-swap (sameKey i k) (sameKey i j) (some b) (some a) (get i t) (λ u v. differ j k h (sym (same-eq i j v) ∙ same-eq i k u))))
 
-pub insert-remove : (k : Key) (a : Action) (p : Key → Bool) → p k ≡ false → (t : Table) → Sorted t → removeIf p (insert k a t) ≡ insert k a (removeIf p t)
+insert-remove : (k : Key) (a : Action) (p : Key → Bool) → p k ≡ false → (t : Table) → Sorted t → removeIf p (insert k a t) ≡ insert k a (removeIf p t)
 insert-remove k a p h t s = table-ext (removeIf p (insert k a t)) (insert k a (removeIf p t))
     (sorted-remove p (insert k a t) (sorted-insert k a t s)) (sorted-insert k a (removeIf p t) (sorted-remove p t s))
     (λ i. simp (get-insert, get-remove) (cond-swap (p i) (sameKey i k) none (some a) (get i t) (λ u v. true≢false (sym u ∙ ap p (same-eq i k v) ∙ h))))
 
-pub insert-assign : (k : Key) (a : Action) (p : Key → Bool) (b : Action) → (p k ≡ true → b ≡ a) → (t : Table) → Sorted t → assignIf p b (insert k a t) ≡ insert k a (assignIf p b t)
+insert-assign : (k : Key) (a : Action) (p : Key → Bool) (b : Action) → (p k ≡ true → b ≡ a) → (t : Table) → Sorted t → assignIf p b (insert k a t) ≡ insert k a (assignIf p b t)
 insert-assign k a p b h t s = table-ext (assignIf p b (insert k a t)) (insert k a (assignIf p b t))
     (sorted-assign p b (insert k a t) (sorted-insert k a t s)) (sorted-insert k a (assignIf p b t) (sorted-assign p b t s))
     (λ i. simp (get-insert, get-assign) (at (p i) (sameKey i k) (get i t) (λ u v. h (ap p (sym (same-eq i k v)) ∙ u))))
@@ -39,7 +39,7 @@ insert-assign k a p b h t s = table-ext (assignIf p b (insert k a t)) (insert k 
     at false true g f = refl
     at false false g f = refl
 
-pub remove-remove : (p q : Key → Bool) (t : Table) → Sorted t → removeIf q (removeIf p t) ≡ removeIf p (removeIf q t)
+remove-remove : (p q : Key → Bool) (t : Table) → Sorted t → removeIf q (removeIf p t) ≡ removeIf p (removeIf q t)
 remove-remove p q t s = table-ext (removeIf q (removeIf p t)) (removeIf p (removeIf q t))
     (sorted-remove q (removeIf p t) (sorted-remove p t s)) (sorted-remove p (removeIf q t) (sorted-remove q t s))
     (λ i. simp get-remove (at (q i) (p i) (get i t)))
@@ -50,7 +50,7 @@ remove-remove p q t s = table-ext (removeIf q (removeIf p t)) (removeIf p (remov
     at false true g = refl
     at false false g = refl
 
-pub assign-remove : (p q : Key → Bool) (a : Action) (t : Table) → Sorted t → removeIf q (assignIf p a t) ≡ assignIf p a (removeIf q t)
+assign-remove : (p q : Key → Bool) (a : Action) (t : Table) → Sorted t → removeIf q (assignIf p a t) ≡ assignIf p a (removeIf q t)
 assign-remove p q a t s = table-ext (removeIf q (assignIf p a t)) (assignIf p a (removeIf q t))
     (sorted-remove q (assignIf p a t) (sorted-assign p a t s)) (sorted-assign p a (removeIf q t) (sorted-remove q t s))
     (λ i. simp (get-remove, get-assign) (at (q i) (p i) (get i t)))
@@ -61,7 +61,7 @@ assign-remove p q a t s = table-ext (removeIf q (assignIf p a t)) (assignIf p a 
     at false true g = refl
     at false false g = refl
 
-pub assign-assign : (p q : Key → Bool) (a b : Action) → ((k : Key) → p k ≡ true → q k ≡ true → a ≡ b) → (t : Table) → Sorted t
+assign-assign : (p q : Key → Bool) (a b : Action) → ((k : Key) → p k ≡ true → q k ≡ true → a ≡ b) → (t : Table) → Sorted t
     → assignIf q b (assignIf p a t) ≡ assignIf p a (assignIf q b t)
 assign-assign p q a b h t s = table-ext (assignIf q b (assignIf p a t)) (assignIf p a (assignIf q b t))
     (sorted-assign q b (assignIf p a t) (sorted-assign p a t s)) (sorted-assign p a (assignIf q b t) (sorted-assign q b t s))
@@ -75,14 +75,14 @@ assign-assign p q a b h t s = table-ext (assignIf q b (assignIf p a t)) (assignI
     at false true g f = refl
     at false false g f = refl
 
-pub assign-idle : (p : Key → Bool) (a : Action) (t : Table) → Sorted t → anyOf p t ≡ false → assignIf p a t ≡ t
+assign-idle : (p : Key → Bool) (a : Action) (t : Table) → Sorted t → anyOf p t ≡ false → assignIf p a t ≡ t
 assign-idle p a t s h = table-ext (assignIf p a t) t (sorted-assign p a t s) s (λ i. simp get-assign (at (p i) refl))
   where
     at : {i : Key} (x : Bool) → p i ≡ x → cond x (overwrite a (get i t)) (get i t) ≡ get i t
     at {i} true e = rw (any-none p t h i e) refl
     at {i} false e = refl
 
-pub insert-twice : (k : Key) (a : Action) (t : Table) → Sorted t → insert k a (insert k a t) ≡ insert k a t
+insert-twice : (k : Key) (a : Action) (t : Table) → Sorted t → insert k a (insert k a t) ≡ insert k a t
 insert-twice k a t s = table-ext (insert k a (insert k a t)) (insert k a t) (sorted-insert k a (insert k a t) (sorted-insert k a t s)) (sorted-insert k a t s)
     (λ i. simp get-insert (cond-same (sameKey i k) (some a) (some a) (get i t)))
 
@@ -93,13 +93,13 @@ inside-self k = within-self match-field (k .pattern)
 pub clash-self : (k : Key) → clash k k ≡ true
 clash-self k = and-intro (eq-eqb (k .priority) (k .priority) refl) (within-overlap match-field (k .pattern) (k .pattern) (inside-self k))
 
-pub clash-sym : (j k : Key) → clash j k ≡ true → clash k j ≡ true
+clash-sym : (j k : Key) → clash j k ≡ true → clash k j ≡ true
 clash-sym j k h =
     let p = eqb (j .priority) (k .priority) in
     let o = overlaps (j .pattern) (k .pattern) in
     and-intro (eq-eqb (k .priority) (j .priority) (sym (eqb-true (j .priority) (k .priority) (and-left p o h)))) (overlap-sym match-field (j .pattern) (k .pattern) (and-right p o h))
 
-pub clash-false : (j k : Key) → clash j k ≡ false → clash k j ≡ false
+clash-false : (j k : Key) → clash j k ≡ false → clash k j ≡ false
 clash-false j k h = split (clash k j) (λ e. absurd (true≢false (sym (clash-sym k j e) ∙ h))) (λ e. e)
 
 -- a test that tells two keys apart
@@ -113,10 +113,10 @@ not-both m n h i u v = true≢false (sym (overlap-up match-field m (i .pattern) 
 pub outside : (m n : Match) → overlaps m n ≡ false → within m n ≡ false
 outside m n h = split (within m n) (λ e. absurd (true≢false (sym (within-overlap match-field m n e) ∙ h))) (λ e. e)
 
-pub overlap-false : (m n : Match) → overlaps m n ≡ false → overlaps n m ≡ false
+overlap-false : (m n : Match) → overlaps m n ≡ false → overlaps n m ≡ false
 overlap-false m n h = split (overlaps n m) (λ e. absurd (true≢false (sym (overlap-sym match-field n m e) ∙ h))) (λ e. e)
 
-pub inside-overlap : (m : Match) (i : Key) → inside m i ≡ true → overlaps m (i .pattern) ≡ true
+inside-overlap : (m : Match) (i : Key) → inside m i ≡ true → overlaps m (i .pattern) ≡ true
 inside-overlap m i e = overlap-sym match-field (i .pattern) m (within-overlap match-field (i .pattern) m e)
 
 -- agreement
@@ -181,18 +181,18 @@ any-dels p k t h = any-remove p (sameKey k) (λ i u v. true≢false (sym u ∙ a
 -- the pairs
 module _ (t : Table) (s : Sorted t) where
   add-add-agree : (j : Key) (a : Action) (k : Key) (b : Action) → add-add j a k b ≡ true → Agree (add j a) (add k b) t
-  unfolding add-add after answer
-  add-add-agree j a k b h = record { tables = or-cases (not (sameKey j k)) (sameAction a b) h (λ e. insert-insert j k a b (not-true (sameKey j k) e) t s) equal; first = refl; second = refl }
+  unfolding after answer
+  add-add-agree j a k b h = record { tables = or-cases (sameAction a b) (not (sameKey j k)) h equal (λ e. insert-insert j k a b (not-true (sameKey j k) e) t s); first = refl; second = refl }
     where
       equal : sameAction a b ≡ true → insert k b (insert j a t) ≡ insert j a (insert k b t)
       equal u = split (sameKey j k) (λ e. rw (same-eq j k e, action-eq a b u) refl) (λ e. insert-insert j k a b e t s)
 
   add-dels-agree : (j : Key) (a : Action) (k : Key) → add-dels j k ≡ true → Agree (add j a) (dels k) t
-  unfolding add-dels after answer
+  unfolding after answer
   add-dels-agree j a k h = record { tables = insert-remove j a (sameKey k) (not-true (sameKey k j) h) t s; first = refl; second = refl }
 
   add-deln-agree : (j : Key) (a : Action) (m : Match) → add-deln j m ≡ true → Agree (add j a) (deln m) t
-  unfolding add-deln after answer
+  unfolding after answer
   add-deln-agree j a m h = record { tables = insert-remove j a (inside m) (not-true (inside m j) h) t s; first = refl; second = refl }
 
   -- an add beside a modn within which it doesn't lie
@@ -212,10 +212,10 @@ module _ (t : Table) (s : Sorted t) where
       (λ e. ap (insert k b) (assign-idle (inside (k .pattern)) b t s e) ∙ sym (insert-twice k b t s) ∙ ap (insert k b) (sym (modn-no k b t e)))
 
   add-modn-agree : (j : Key) (a : Action) (k : Key) (b : Action) → add-modn j a k b ≡ true → Agree (add j a) (modn k b) t
-  unfolding add-modn after answer
-  add-modn-agree j a k b h = or-cases (not (inside (k .pattern) j)) (sameKey j k && sameAction a b) h
+  unfolding after answer
+  add-modn-agree j a k b h = or-cases (not (inside (k .pattern) j)) (sameAction a b && sameKey j k) h
       (λ e. agree-sym (add-modn-apart j a k b (not-true (inside (k .pattern) j) e)))
-      (λ e. rw (same-eq j k (and-left (sameKey j k) (sameAction a b) e), action-eq a b (and-right (sameKey j k) (sameAction a b) e)) (record { tables = add-modn-same k b; first = refl; second = refl }))
+      (λ e. rw (same-eq j k (and-right (sameAction a b) (sameKey j k) e), action-eq a b (and-left (sameAction a b) (sameKey j k) e)) (record { tables = add-modn-same k b; first = refl; second = refl }))
 
   addc-add-agree : (j : Key) (a : Action) (k : Key) (b : Action) → clash j k ≡ false → Agree (addc j a) (add k b) t
   unfolding after answer
@@ -231,7 +231,7 @@ module _ (t : Table) (s : Sorted t) where
       (λ e. record { tables = insert-remove j a (sameKey k) (apart (clash j) k j h (clash-self j)) t s; first = refl; second = refl })
 
   addc-modn-agree : (j : Key) (a : Action) (k : Key) (b : Action) → addc-modn j k ≡ true → Agree (addc j a) (modn k b) t
-  unfolding addc-modn after answer
+  unfolding after answer
   addc-modn-agree j a k b h =
       addc-agree j a (modn k b) t (any-modn (clash j) k b t (not-true (clash j k) (and-right (not (inside (k .pattern) j)) (not (clash j k)) h)))
       (λ e. agree-sym (add-modn-apart j a k b (not-true (inside (k .pattern) j) (and-left (not (inside (k .pattern) j)) (not (clash j k)) h))))
@@ -243,7 +243,7 @@ module _ (t : Table) (s : Sorted t) where
       (λ e. record { tables = insert-remove j a (inside m) (outside (j .pattern) m h) t s; first = refl; second = refl })
 
   modn-dels-agree : (j : Key) (a : Action) (k : Key) → modn-dels j k ≡ true → Agree (modn j a) (dels k) t
-  unfolding modn-dels after answer
+  unfolding after answer
   modn-dels-agree j a k h =
       let o = not-true (inside (j .pattern) k) h in
       modn-agree j a (dels k) t (any-dels (inside (j .pattern)) k t o) (assign-remove (inside (j .pattern)) (sameKey k) a t s) refl
@@ -275,13 +275,13 @@ module _ (t : Table) (s : Sorted t) where
           ∙ ap (assignIf (inside (j .pattern)) a) (sym (modn-no k b t e)))
 
   modn-modn-agree : (j : Key) (a : Action) (k : Key) (b : Action) → modn-modn j a k b ≡ true → Agree (modn j a) (modn k b) t
-  unfolding modn-modn after answer
+  unfolding after answer
   modn-modn-agree j a k b h =
       let c = sameAction a b in
       let both = c && (not (inside (k .pattern) j) && not (inside (j .pattern) k)) in
-      or-cases (not (overlaps (j .pattern) (k .pattern))) (both || (sameKey j k && c)) h clear
-      (λ e. or-cases both (sameKey j k && c) e equal
-      (λ f. rw (same-eq j k (and-left (sameKey j k) c f), action-eq a b (and-right (sameKey j k) c f)) (record { tables = refl; first = refl; second = refl })))
+      or-cases (not (overlaps (j .pattern) (k .pattern))) (both || (c && sameKey j k)) h clear
+      (λ e. or-cases both (c && sameKey j k) e equal
+      (λ f. rw (same-eq j k (and-right c (sameKey j k) f), action-eq a b (and-left c (sameKey j k) f)) (record { tables = refl; first = refl; second = refl })))
     where
       clear : not (overlaps (j .pattern) (k .pattern)) ≡ true → Agree (modn j a) (modn k b) t
       clear e =
@@ -344,7 +344,7 @@ module _ (t : Table) (s : Sorted t) where
 
   -- where the test says yes, the two orders agree
   pub commutes-sound : (v w : Effect) → commutes v w ≡ true → Agree v w t
-  unfolding commutes pkt-write addc-other apart-deln after answer
+  unfolding commutes after answer
   commutes-sound idle w h = idle-agree w
   commutes-sound (pkt p) idle h = agree-sym (idle-agree (pkt p))
   commutes-sound (pkt p) (pkt q) h = record { tables = refl; first = refl; second = refl }

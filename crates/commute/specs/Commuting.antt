@@ -22,47 +22,47 @@ Commute v w = (t : Table) → Sorted t → Agree v w t
 
 -- ---- the document's table, a row each; 1 and 2 as named left and right
 -- pkt, any write: the packet doesn't fit the match
-unfoldable pub pkt-write : Packet → Match → Bool
+abbrev pub pkt-write : Packet → Match → Bool
 pkt-write p m = not (fits m p)
 
--- add, add: keys differ or actions equal
-unfoldable pub add-add : Key → Action → Key → Action → Bool
-add-add j a k b = not (sameKey j k) || sameAction a b
+-- add, add: actions equal or keys differ
+abbrev pub add-add : Key → Action → Key → Action → Bool
+add-add j a k b = sameAction a b || not (sameKey j k)
 
 -- add, dels: keys differ
-unfoldable pub add-dels : Key → Key → Bool
+abbrev pub add-dels : Key → Key → Bool
 add-dels j k = not (sameKey k j)
 
 -- add, deln: 1 not within 2
-unfoldable pub add-deln : Key → Match → Bool
+abbrev pub add-deln : Key → Match → Bool
 add-deln j m = not (within (j .pattern) m)
 
--- add, modn: 1 not within 2, or same key and action
-unfoldable pub add-modn : Key → Action → Key → Action → Bool
-add-modn j a k b = not (within (j .pattern) (k .pattern)) || (sameKey j k && sameAction a b)
+-- add, modn: 1 not within 2, or same action and key
+abbrev pub add-modn : Key → Action → Key → Action → Bool
+add-modn j a k b = not (within (j .pattern) (k .pattern)) || (sameAction a b && sameKey j k)
 
 -- addc with add, addc or dels: priorities differ or no overlap
-unfoldable pub addc-other : Key → Key → Bool
+abbrev pub addc-other : Key → Key → Bool
 addc-other j k = not (clash j k)
 
 -- addc, modn: 1 not within 2, and (priorities differ or no overlap)
-unfoldable pub addc-modn : Key → Key → Bool
+abbrev pub addc-modn : Key → Key → Bool
 addc-modn j k = not (within (j .pattern) (k .pattern)) && not (clash j k)
 
 -- addc, deln; modn, deln: no overlap
-unfoldable pub apart-deln : Key → Match → Bool
+abbrev pub apart-deln : Key → Match → Bool
 apart-deln j m = not (overlaps (j .pattern) m)
 
 -- modn, dels: 2 not within 1
-unfoldable pub modn-dels : Key → Key → Bool
+abbrev pub modn-dels : Key → Key → Bool
 modn-dels j k = not (within (k .pattern) (j .pattern))
 
--- modn, modn: no overlap; or equal actions and neither within the other; or same key and action
-unfoldable pub modn-modn : Key → Action → Key → Action → Bool
+-- modn, modn: no overlap; or equal actions and neither within the other; or same action and key
+abbrev pub modn-modn : Key → Action → Key → Action → Bool
 modn-modn j a k b =
     not (overlaps (j .pattern) (k .pattern))
     || ((sameAction a b && (not (within (j .pattern) (k .pattern)) && not (within (k .pattern) (j .pattern))))
-    || (sameKey j k && sameAction a b))
+    || (sameAction a b && sameKey j k))
 
 -- which row is for which pair, both ways round; pkt with pkt and delete with delete always commute
 unfoldable pub commutes : Effect → Effect → Bool

@@ -1,5 +1,2 @@
-// When two operations of one switch commute.
-pub mod pairs;
+// Document 01's table of the pairs that commute, a function a row.
 pub mod rows;
-
-pub use pairs::commutes;

@@ -15,47 +15,38 @@ pub fn packet_write(p: Packet, m: Match) -> bool
 pub fn add_add(d: Entry, e: Entry) -> bool
     ensures { λ r. ⌜ r ≡ add-add (d .key) (d .action) (e .key) (e .action) ⌝ }
 {
-    let j = d.key;
-    let k = e.key;
     let a = d.action;
     let b = e.action;
     if a.same(b) {
         return true;
     }
-    !j.same(k)
+    !d.key.same(e.key)
 }
 
 pub fn add_delete_strict(d: Entry, k: Key) -> bool
     ensures { λ r. ⌜ r ≡ add-dels (d .key) k ⌝ }
 {
-    let j = d.key;
-    !k.same(j)
+    !k.same(d.key)
 }
 
 pub fn add_delete(d: Entry, m: Match) -> bool
     ensures { λ r. ⌜ r ≡ add-deln (d .key) m ⌝ }
 {
-    let j = d.key;
-    let p = j.pattern;
-    !p.within(m)
+    !d.key.pattern.within(m)
 }
 
 pub fn add_modify(d: Entry, e: Entry) -> bool
     ensures { λ r. ⌜ r ≡ add-modn (d .key) (d .action) (e .key) (e .action) ⌝ }
 {
-    let j = d.key;
-    let k = e.key;
-    let m = j.pattern;
-    let n = k.pattern;
     let a = d.action;
     let b = e.action;
-    if !m.within(n) {
+    if !d.key.pattern.within(e.key.pattern) {
         return true;
     }
     if !a.same(b) {
         return false;
     }
-    j.same(k)
+    d.key.same(e.key)
 }
 
 pub fn checked_other(d: Entry, k: Key) -> bool
@@ -71,40 +62,29 @@ pub fn checked_other(d: Entry, k: Key) -> bool
 pub fn checked_modify(d: Entry, e: Entry) -> bool
     ensures { λ r. ⌜ r ≡ addc-modn (d .key) (e .key) ⌝ }
 {
-    let j = d.key;
-    let k = e.key;
-    let m = j.pattern;
-    let n = k.pattern;
-    if m.within(n) {
+    if d.key.pattern.within(e.key.pattern) {
         return false;
     }
-    checked_other(d, k)
+    checked_other(d, e.key)
 }
 
 pub fn apart_delete(d: Entry, m: Match) -> bool
     ensures { λ r. ⌜ r ≡ apart-deln (d .key) m ⌝ }
 {
-    let j = d.key;
-    let p = j.pattern;
-    !p.overlaps(m)
+    !d.key.pattern.overlaps(m)
 }
 
 pub fn modify_delete_strict(d: Entry, k: Key) -> bool
     ensures { λ r. ⌜ r ≡ modn-dels (d .key) k ⌝ }
 {
-    let j = d.key;
-    let m = j.pattern;
-    let n = k.pattern;
-    !n.within(m)
+    !k.pattern.within(d.key.pattern)
 }
 
 pub fn modify_modify(d: Entry, e: Entry) -> bool
     ensures { λ r. ⌜ r ≡ modn-modn (d .key) (d .action) (e .key) (e .action) ⌝ }
 {
-    let j = d.key;
-    let k = e.key;
-    let m = j.pattern;
-    let n = k.pattern;
+    let m = d.key.pattern;
+    let n = e.key.pattern;
     let a = d.action;
     let b = e.action;
     if !m.overlaps(n) {
@@ -114,5 +94,5 @@ pub fn modify_modify(d: Entry, e: Entry) -> bool
         return false;
     }
     let apart = !m.within(n) & !n.within(m);
-    apart | j.same(k)
+    apart | d.key.same(e.key)
 }

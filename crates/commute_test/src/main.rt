@@ -153,16 +153,21 @@ fn packet(m: u8) -> Packet {
     }
 }
 
-fn operation(word: u8, m: u8, priority: u8, port: u8) -> TableOperation {
+fn digit(n: u32) -> u8 {
+    (n % 16) as u8
+}
+
+fn operation(digits: u32) -> TableOperation {
+    let m = digit(digits / 256);
     let k = Key {
-        priority: priority as u16,
+        priority: digit(digits / 16) as u16,
         pattern: pattern(m),
     };
     let e = Entry {
         key: k,
-        action: Action::Port(port as u16),
+        action: Action::Port(digit(digits) as u16),
     };
-    match word {
+    match digit(digits / 4096) {
         0 => TableOperation::Packet(packet(m)),
         1 => TableOperation::Add(e),
         2 => TableOperation::AddChecked(e),
@@ -204,15 +209,16 @@ fn say_number(before: &[u8], n: u8) {
 }
 
 // The operation with the fields that it has.
-fn say_operation(word: u8, m: u8, priority: u8, port: u8) {
+fn say_operation(digits: u32) {
+    let word = digit(digits / 4096);
     say_word(word);
-    say_match(m);
+    say_match(digit(digits / 256));
     if 0 < word {
         if word < 6 {
-            say_number(b" ", priority);
+            say_number(b" ", digit(digits / 16));
         }
         if word < 5 {
-            say_number(b" p", port);
+            say_number(b" p", digit(digits));
         }
     }
 }
@@ -225,42 +231,18 @@ fn verdict(yes: bool) {
     }
 }
 
-fn digit(n: u32) -> u8 {
-    (n % 16) as u8
-}
-
 // The pair, and the verdict both ways round.
 fn pair(digits: u32) {
     let one = digits / 65536;
     let other = digits % 65536;
-    let v = operation(
-        digit(one / 4096),
-        digit(one / 256),
-        digit(one / 16),
-        digit(one),
-    );
-    let w = operation(
-        digit(other / 4096),
-        digit(other / 256),
-        digit(other / 16),
-        digit(other),
-    );
-    say_operation(
-        digit(one / 4096),
-        digit(one / 256),
-        digit(one / 16),
-        digit(one),
-    );
+    let v = operation(one);
+    let w = operation(other);
+    say_operation(one);
     say(b", ");
-    say_operation(
-        digit(other / 4096),
-        digit(other / 256),
-        digit(other / 16),
-        digit(other),
-    );
+    say_operation(other);
     say(b":");
-    verdict(commute::commutes(v, w));
-    verdict(commute::commutes(w, v));
+    verdict(independence::commutes(v, w));
+    verdict(independence::commutes(w, v));
     say(b"\n");
 }
 

@@ -1,7 +1,6 @@
 -- Laws of Booleans that the other files cite. Assumes nothing.
-use mathlib.Core.Path.{_≡_, refl, sym, _∙_}
-use mathlib.Core.Bool.{Bool, true, false, _&&_, _||_, not, cond, false≢true, true≢false}
-use borrow.Author.Tests.{not-true, not-false}
+use mathlib.Core.Path.{_≡_, refl, sym}
+use mathlib.Core.Bool.{Bool, true, false, _&&_, _||_, cond, false≢true, true≢false}
 
 -- by cases, with the equation
 pub split : {G : Type 0} (b : Bool) → (b ≡ true → G) → (b ≡ false → G) → G
@@ -55,13 +54,6 @@ and-swap true true c d = refl
 and-swap true false true d = refl
 and-swap true false false d = refl
 and-swap false b c d = refl
-
--- a test r of p, told by its negation: where it fails so does p and what follows, and where it holds what follows decides
-pub fails : {r p : Bool} (q : Bool) → r ≡ p → not r ≡ true → false ≡ (p && q)
-fails {r} {p} q e t = rw (← e, not-true r t)
-
-pub holds : {r p x : Bool} {q : Bool} → r ≡ p → not r ≡ false → x ≡ q → x ≡ (p && q)
-holds {r} {p} {x} {q} e t f = rw (← e, not-false r t) f
 
 pub or-left : (x y : Bool) → (x || y) ≡ false → x ≡ false
 or-left true y e = absurd (true≢false e)

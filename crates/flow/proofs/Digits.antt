@@ -30,7 +30,7 @@ module _ (op : ℕ → ℕ → ℕ) (f : ℕ → ℕ → ℕ) (g : Bool → Bool
     (step : (a b : ℕ) → op a b ≡ op (a / 2) (b / 2) * 2 + f (a % 2) (b % 2))
     (half : (a b k : ℕ) → op a b / 2 ^ k ≡ op (a / 2 ^ k) (b / 2 ^ k))
     (small : (x y : ℕ) → (x ≡ 0) ⊎ (x ≡ 1) → (y ≡ 0) ⊎ (y ≡ 1) → (f x y < 2) × (eqb (f x y) 1 ≡ g (eqb x 1) (eqb y 1))) where
-  pub digit-op : (i a b : ℕ) → digit i (op a b) ≡ g (digit i a) (digit i b)
+  digit-op : (i a b : ℕ) → digit i (op a b) ≡ g (digit i a) (digit i b)
   unfolding digit
   digit-op zero a b =
       let s = small (a % 2) (b % 2) (two (a % 2) (mod-lt a (lit< tt))) (two (b % 2) (mod-lt b (lit< tt))) in

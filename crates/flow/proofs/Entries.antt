@@ -57,7 +57,7 @@ pub same-self : (k : Key) → sameKey k k ≡ true
 unfolding sameKey
 same-self k = rw (key-order .self k) refl
 
-pub same-of : {j k : Key} → j ≡ k → sameKey j k ≡ true
+same-of : {j k : Key} → j ≡ k → sameKey j k ≡ true
 same-of {j} {k} e = rw e (same-self k)
 
 pub same-iff : (j k : Key) → (sameKey j k ≡ true) ↔ (j ≡ k)

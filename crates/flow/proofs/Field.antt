@@ -21,14 +21,11 @@ pub record IsField {M : Type 0} {X : Type 0} (okM : M → Type 0) (okX : X → T
 -- what follows from the laws
 module _ {M : Type 0} {X : Type 0} {okM : M → Type 0} {okX : X → Type 0} {fits : M → X → Bool} {within overlaps : M → M → Bool} {meet : M → M → M} {point : M → X}
     (F : IsField okM okX fits within overlaps meet point) where
-  pub fits-within : (a b : M) → ((x : X) → fits a x ≡ true → fits b x ≡ true) → within a b ≡ true
+  fits-within : (a b : M) → ((x : X) → fits a x ≡ true → fits b x ≡ true) → within a b ≡ true
   fits-within a b h = split (within a b) (λ e. e) (λ e. let t = F .tells a b e in absurd (true≢false (sym (h (t .0) (t .1)) ∙ t .2)))
 
   pub within-self : (a : M) → within a a ≡ true
   within-self a = fits-within a a (λ x e. e)
-
-  pub within-trans : (a b c : M) → within a b ≡ true → within b c ≡ true → within a c ≡ true
-  within-trans a b c h k = fits-within a c (λ x e. F .within-fits b c k x (F .within-fits a b h x e))
 
   pub meet-left : (a b : M) → overlaps a b ≡ true → within (meet a b) a ≡ true
   meet-left a b h = fits-within (meet a b) a (λ x e. and-left (fits a x) (fits b x) (sym (F .meet-fits a b h x) ∙ e))

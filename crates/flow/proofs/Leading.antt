@@ -1,12 +1,12 @@
 -- The tests of a match by leading bits, which compute on numbers; for matches in range they are the tests by masks. Assumes nothing.
-use mathlib.Core.Path.{_≡_, refl, ap₂, ap}
-use mathlib.Core.Bool.{Bool, true, false, _&&_}
-use Prim.Native.Nat.{ℕ, _/_, _-_, _^_, _<_, min}
+use mathlib.Core.Path.{_≡_, refl}
+use mathlib.Core.Bool.{Bool, false, _&&_}
+use Prim.Native.Nat.{_/_, _-_, _^_, min}
 use lib.Dec.{eqb, leb}
 use Rattle.flow.specs.Types.{Prefix, Match, Packet}
 use Rattle.flow.specs.Matches.{exactFits, exactOverlaps, exactWithin, prefixFits, fits, overlaps, within, MatchInRange}
 use Rattle.flow.proofs.Booleans.{and-false-right}
-use Rattle.flow.proofs.PrefixField.{prefix-fits-leading, prefix-overlaps-leading, prefix-within-leading}
+use Rattle.flow.proofs.PrefixField.{prefix-overlaps-leading, prefix-within-leading}
 
 abbrev leadingOverlaps : Prefix → Prefix → Bool
 leadingOverlaps p q = eqb (p .value / 2 ^ (32 - min (p .length) (q .length))) (q .value / 2 ^ (32 - min (p .length) (q .length)))
@@ -14,7 +14,7 @@ leadingOverlaps p q = eqb (p .value / 2 ^ (32 - min (p .length) (q .length))) (q
 abbrev leadingWithin : Prefix → Prefix → Bool
 leadingWithin p q = leb (q .length) (p .length) && eqb (p .value / 2 ^ (32 - q .length)) (q .value / 2 ^ (32 - q .length))
 
-abbrev pub overlapsByBits : Match → Match → Bool
+abbrev overlapsByBits : Match → Match → Bool
 overlapsByBits m n =
     exactOverlaps (m .port) (n .port)
     && (leadingOverlaps (m .src) (n .src)
@@ -23,7 +23,7 @@ overlapsByBits m n =
     && (exactOverlaps (m .sport) (n .sport)
     && exactOverlaps (m .dport) (n .dport)))))
 
-abbrev pub withinByBits : Match → Match → Bool
+abbrev withinByBits : Match → Match → Bool
 withinByBits m n =
     exactWithin (m .port) (n .port)
     && (leadingWithin (m .src) (n .src)
@@ -35,17 +35,11 @@ withinByBits m n =
 module _ (m n : Match) (h : MatchInRange m) (k : MatchInRange n) where
   pub overlaps-by-bits : overlaps m n ≡ overlapsByBits m n
   unfolding overlaps
-  overlaps-by-bits = ap (λ b. exactOverlaps (m .port) (n .port) && b)
-      (ap₂ _&&_ (prefix-overlaps-leading (m .src) (n .src) (h .src .value) (k .src .value))
-      (ap (λ b. b && (exactOverlaps (m .proto) (n .proto) && (exactOverlaps (m .sport) (n .sport) && exactOverlaps (m .dport) (n .dport))))
-      (prefix-overlaps-leading (m .dst) (n .dst) (h .dst .value) (k .dst .value))))
+  overlaps-by-bits = rw (prefix-overlaps-leading (m .src) (n .src) (h .src .value) (k .src .value), prefix-overlaps-leading (m .dst) (n .dst) (h .dst .value) (k .dst .value))
 
   pub within-by-bits : within m n ≡ withinByBits m n
   unfolding within
-  within-by-bits = ap (λ b. exactWithin (m .port) (n .port) && b)
-      (ap₂ _&&_ (prefix-within-leading (m .src) (n .src) (h .src .value) (k .src .value) (k .src .length))
-      (ap (λ b. b && (exactWithin (m .proto) (n .proto) && (exactWithin (m .sport) (n .sport) && exactWithin (m .dport) (n .dport))))
-      (prefix-within-leading (m .dst) (n .dst) (h .dst .value) (k .dst .value) (k .dst .length))))
+  within-by-bits = rw (prefix-within-leading (m .src) (n .src) (h .src .value) (k .src .value) (k .src .length), prefix-within-leading (m .dst) (n .dst) (h .dst .value) (k .dst .value) (k .dst .length))
 
 -- a packet to another destination doesn't fit
 pub other-destination : (m : Match) (p : Packet) → prefixFits (m .dst) (p .dst) ≡ false → fits m p ≡ false

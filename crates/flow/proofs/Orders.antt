@@ -25,7 +25,7 @@ pub record IsOrder (A : Type 0) (c : A → A → Ordering) : Type 0 where
 pub equal≢less : Equal ≡ Less → ⊥
 equal≢less p = let z : _≡_ {A = ℕ} 0 1 = cc in omega arith
 
-pub greater≢less : Greater ≡ Less → ⊥
+greater≢less : Greater ≡ Less → ⊥
 greater≢less p = let z : _≡_ {A = ℕ} 0 1 = cc in omega arith
 
 less≢equal : Less ≡ Equal → ⊥
@@ -64,7 +64,7 @@ module _ {A : Type 0} {c : A → A → Ordering} (C : IsOrder A c) where
       go Greater e Greater e′ k k′ = absurd (greater≢less k)
 
 -- ---- numbers
-pub number-less : {a b : ℕ} → a < b → orderOf a b ≡ Less
+number-less : {a b : ℕ} → a < b → orderOf a b ≡ Less
 unfolding orderOf
 number-less {a} {b} h = rw (lt-ltb a b h)
 
@@ -72,7 +72,7 @@ pub number-equal : {a b : ℕ} → a ≡ b → orderOf a b ≡ Equal
 unfolding orderOf
 number-equal {a} {b} h = rw (le-ltb a b (omega arith), le-ltb b a (omega arith))
 
-pub number-greater : {a b : ℕ} → b < a → orderOf a b ≡ Greater
+number-greater : {a b : ℕ} → b < a → orderOf a b ≡ Greater
 unfolding orderOf
 number-greater {a} {b} h = rw (le-ltb a b (omega arith), lt-ltb b a h)
 
@@ -80,7 +80,7 @@ number-greater {a} {b} h = rw (le-ltb a b (omega arith), lt-ltb b a h)
 three : {G : Type 0} (a b : ℕ) → (a < b → G) → (a ≡ b → G) → (b < a → G) → G
 three a b f g h = split (ltb a b) (λ e. f (ltb-true a b e)) (λ e. split (ltb b a) (λ k. h (ltb-true b a k)) (λ k. g (omega (arith, ltb-false a b e, ltb-false b a k))))
 
-pub less-number : (a b : ℕ) → orderOf a b ≡ Less → a < b
+less-number : (a b : ℕ) → orderOf a b ≡ Less → a < b
 less-number a b e = three a b (λ h. h) (λ h. absurd (equal≢less (sym (number-equal h) ∙ e))) (λ h. absurd (greater≢less (sym (number-greater h) ∙ e)))
 
 equal-number : (a b : ℕ) → orderOf a b ≡ Equal → a ≡ b

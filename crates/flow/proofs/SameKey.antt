@@ -1,6 +1,6 @@
 -- Table order finds two keys equal exactly if the priorities are equal and each field of the matches. Assumes nothing.
-use mathlib.Core.Path.{_≡_, refl, sym, _∙_, ap}
-use mathlib.Core.Bool.{Bool, true, false, _&&_}
+use mathlib.Core.Path.{_≡_, sym, _∙_, ap}
+use mathlib.Core.Bool.{false, _&&_}
 use Prim.Native.Nat.{ℕ}
 use native.Mathlib.Omega.{arith}
 use lib.Dec.{eqb, ltb}
@@ -17,7 +17,7 @@ equal-then a b o = split (ltb a b)
     (λ v. let i = ltb-true b a v in rw (u, v, ne-eqb a b (λ e. omega arith)))
     (λ v. let i = ltb-false b a v in rw (u, v, eq-eqb a b (omega arith))))
 
-pub same-match : (m n : Match) → isEqual (matchOrder m n) ≡ sameMatch m n
+same-match : (m n : Match) → isEqual (matchOrder m n) ≡ sameMatch m n
 unfolding matchOrder rank sameMatch
 same-match m n = simp (equal-then, and-assoc, and-true)
 

@@ -20,9 +20,7 @@ impl Key {
     pub fn order(self, other: Key) -> Ordering
         ensures { λ r. ⌜ r ≡ keyOrder self other ⌝ }
     {
-        let m = self.pattern;
-        let n = other.pattern;
-        let by_match = m.order(n);
+        let by_match = self.pattern.order(other.pattern);
         crate::ordering::order_of(other.priority as u32, self.priority as u32, by_match)
     }
 
@@ -32,9 +30,7 @@ impl Key {
         if self.priority != other.priority {
             return false;
         }
-        let m = self.pattern;
-        let n = other.pattern;
-        m.same(n)
+        self.pattern.same(other.pattern)
     }
 }
 
@@ -42,8 +38,6 @@ impl Entry {
     pub fn order(self, other: Entry) -> Ordering
         ensures { λ r. ⌜ r ≡ keyOrder (self .key) (other .key) ⌝ }
     {
-        let j = self.key;
-        let k = other.key;
-        j.order(k)
+        self.key.order(other.key)
     }
 }

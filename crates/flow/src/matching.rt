@@ -29,27 +29,13 @@ impl Match {
         ensures { λ r. ⌜ r ≡ fits self p ⌝ }
     {
         let port = self.port;
-        let src = self.src;
-        let dst = self.dst;
         let proto = self.proto;
         let sport = self.sport;
         let dport = self.dport;
-        if !port.fits(p.port) {
-            return false;
-        }
-        if !src.fits(p.src) {
-            return false;
-        }
-        if !dst.fits(p.dst) {
-            return false;
-        }
-        if !proto.fits(p.proto) {
-            return false;
-        }
-        if !sport.fits(p.sport) {
-            return false;
-        }
-        dport.fits(p.dport)
+        port.fits(p.port)
+            & (self.src.fits(p.src)
+                & (self.dst.fits(p.dst)
+                    & (proto.fits(p.proto) & (sport.fits(p.sport) & dport.fits(p.dport)))))
     }
 
     pub fn overlaps(self, other: Match) -> bool
@@ -57,32 +43,17 @@ impl Match {
     {
         let port = self.port;
         let its_port = other.port;
-        let src = self.src;
-        let its_src = other.src;
-        let dst = self.dst;
-        let its_dst = other.dst;
         let proto = self.proto;
         let its_proto = other.proto;
         let sport = self.sport;
         let its_sport = other.sport;
         let dport = self.dport;
         let its_dport = other.dport;
-        if !port.overlaps(its_port) {
-            return false;
-        }
-        if !src.overlaps(its_src) {
-            return false;
-        }
-        if !dst.overlaps(its_dst) {
-            return false;
-        }
-        if !proto.overlaps(its_proto) {
-            return false;
-        }
-        if !sport.overlaps(its_sport) {
-            return false;
-        }
-        dport.overlaps(its_dport)
+        port.overlaps(its_port)
+            & (self.src.overlaps(other.src)
+                & (self.dst.overlaps(other.dst)
+                    & (proto.overlaps(its_proto)
+                        & (sport.overlaps(its_sport) & dport.overlaps(its_dport)))))
     }
 
     pub fn within(self, other: Match) -> bool
@@ -90,41 +61,24 @@ impl Match {
     {
         let port = self.port;
         let its_port = other.port;
-        let src = self.src;
-        let its_src = other.src;
-        let dst = self.dst;
-        let its_dst = other.dst;
         let proto = self.proto;
         let its_proto = other.proto;
         let sport = self.sport;
         let its_sport = other.sport;
         let dport = self.dport;
         let its_dport = other.dport;
-        if !port.within(its_port) {
-            return false;
-        }
-        if !src.within(its_src) {
-            return false;
-        }
-        if !dst.within(its_dst) {
-            return false;
-        }
-        if !proto.within(its_proto) {
-            return false;
-        }
-        if !sport.within(its_sport) {
-            return false;
-        }
-        dport.within(its_dport)
+        port.within(its_port)
+            & (self.src.within(other.src)
+                & (self.dst.within(other.dst)
+                    & (proto.within(its_proto)
+                        & (sport.within(its_sport) & dport.within(its_dport)))))
     }
 
     // No address bit stands past its prefix's length.
     pub fn is_clear(self) -> bool
         ensures { λ r. ⌜ r ≡ clear self ⌝ }
     {
-        let src = self.src;
-        let dst = self.dst;
-        src.is_clear() & dst.is_clear()
+        self.src.is_clear() & self.dst.is_clear()
     }
 
     pub fn same(self, other: Match) -> bool
@@ -132,32 +86,16 @@ impl Match {
     {
         let port = self.port;
         let its_port = other.port;
-        let src = self.src;
-        let its_src = other.src;
-        let dst = self.dst;
-        let its_dst = other.dst;
         let proto = self.proto;
         let its_proto = other.proto;
         let sport = self.sport;
         let its_sport = other.sport;
         let dport = self.dport;
         let its_dport = other.dport;
-        if !port.same(its_port) {
-            return false;
-        }
-        if !src.same(its_src) {
-            return false;
-        }
-        if !dst.same(its_dst) {
-            return false;
-        }
-        if !proto.same(its_proto) {
-            return false;
-        }
-        if !sport.same(its_sport) {
-            return false;
-        }
-        dport.same(its_dport)
+        port.same(its_port)
+            & (self.src.same(other.src)
+                & (self.dst.same(other.dst)
+                    & (proto.same(its_proto) & (sport.same(its_sport) & dport.same(its_dport)))))
     }
 
     pub fn order(self, other: Match) -> Ordering
@@ -165,10 +103,6 @@ impl Match {
     {
         let port = self.port;
         let its_port = other.port;
-        let src = self.src;
-        let its_src = other.src;
-        let dst = self.dst;
-        let its_dst = other.dst;
         let proto = self.proto;
         let its_proto = other.proto;
         let sport = self.sport;
@@ -178,8 +112,8 @@ impl Match {
         let by_dport = dport.order(its_dport, Ordering::Equal);
         let by_sport = sport.order(its_sport, by_dport);
         let by_proto = proto.order(its_proto, by_sport);
-        let by_dst = dst.order(its_dst, by_proto);
-        let by_src = src.order(its_src, by_dst);
+        let by_dst = self.dst.order(other.dst, by_proto);
+        let by_src = self.src.order(other.src, by_dst);
         port.order(its_port, by_src)
     }
 }

@@ -12,18 +12,18 @@ use lib.Seq.{sets}
 use borrow.Author.Tests.{lt-ltb, le-ltb}
 use Rattle.digits.specs.Print.{Put}
 use Rattle.digits.proofs.Writing.{put-then}
-use Rattle.table.specs.FlowTable.{Effect, idle, effectOf}
+use Rattle.table.specs.FlowTable.{effectOf}
 use Rattle.commute.specs.Commuting.{commutes}
-use Rattle.commute.proofs.Theorems.{commutes-sym, idle-commutes}
 use Rattle.orders.specs.Tables.{paired}
 use Rattle.events.specs.Events.{eventAt}
 use Rattle.causality.specs.Causality.{before}
 use Rattle.pairs.specs.Types.{Operation, Event, Counts, Verdict, Unpaired, Ordered, Commuting, Listed}
 use Rattle.pairs.specs.List.{Kind, pairs, ordered, commuting, listed, isKind, test, Pair, only, gather, cell, pairsWhere, ofKind, pairBytes, countsOf}
-use Rattle.pairs.specs.Counting.{size, verdictOf, counts, countOf, Small, rowOf}
+use Rattle.verdicts.specs.Verdicts.{verdictOf}
+use Rattle.pairs.specs.Counting.{size, counts, countOf, Small, rowOf}
 
 -- ---- lists gathered from parts
-pub gather-more : {A : Type 0} (f : ℕ → List A) (n : ℕ) → length (gather f (n + 1)) ≡ length (gather f n) + length (f n)
+gather-more : {A : Type 0} (f : ℕ → List A) (n : ℕ) → length (gather f (n + 1)) ≡ length (gather f n) + length (f n)
 gather-more f n = rw add-one (length-append (gather f n) (f n))
 
 -- n parts of at most m elements
@@ -53,7 +53,7 @@ pub row-most : (p : ℕ → ℕ → Bool) (i n : ℕ) → length (gather (cell p
 row-most p i n = omega (arith, gather-most (cell p i) 1 (λ j. only-most {A = Pair} (ltb i j && p i j) (record { lower = i; higher = j })) n)
 
 -- right of i a place counts where the test holds
-pub row-more : (p : ℕ → ℕ → Bool) (i j : ℕ) → i < j → length (gather (cell p i) (j + 1)) ≡ length (gather (cell p i) j) + size (p i j)
+row-more : (p : ℕ → ℕ → Bool) (i j : ℕ) → i < j → length (gather (cell p i) (j + 1)) ≡ length (gather (cell p i) j) + size (p i j)
 row-more p i j l = gather-more (cell p i) j ∙ ap (λ (x : ℕ). length (gather (cell p i) j) + x) (simp (lt-ltb i j l) (size-only (p i j) _))
 
 row-next : (p : ℕ → ℕ → Bool) (i j : ℕ) (t : Bool) → i < j → t ≡ p i j → gather (cell p i) (j + 1) ≡ gather (cell p i) j ++ only t (record { lower = i; higher = j })
@@ -76,42 +76,17 @@ write-more a b l s at e =
     put-then p q .bytes ∙ ap (sets l s) (sym (bytes-append a b))
 
 -- ---- arms of a match on a verdict
-pub counted-arm : (k : Kind) {x : ℕ} (y : ℕ) {v form : Verdict} → v ≡ form → x ≡ y + size (counts k form) → x ≡ y + size (counts k v)
-counted-arm k y e h = h ∙ ap (λ (w : Verdict). y + size (counts k w)) (sym e)
+pub counted-arm : (c r : Counts) {v form : Verdict} → v ≡ form
+    → r .pairs ≡ c .pairs + size (counts pairs form) → r .ordered ≡ c .ordered + size (counts ordered form)
+    → r .commuting ≡ c .commuting + size (counts commuting form) → r .listed ≡ c .listed + size (counts listed form)
+    → (k : Kind) → countOf k r ≡ countOf k c + size (counts k v)
+counted-arm c r e p o m l pairs = rw e p
+counted-arm c r e p o m l ordered = rw e o
+counted-arm c r e p o m l commuting = rw e m
+counted-arm c r e p o m l listed = rw e l
 
 pub put-arm : (old : List ℕ) (at : ℕ) (p : Pair) {l : List ℕ} {v form : Verdict} → v ≡ form → l ≡ sets old at (pairBytes (only (counts listed form) p)) → l ≡ sets old at (pairBytes (only (counts listed v) p))
 put-arm old at p e h = h ∙ ap (λ (x : Verdict). sets old at (pairBytes (only (counts listed x) p))) (sym e)
-
--- ---- the paths through the verdict
-module _ (o p : Operation) (h : Bool) {x : Bool} (e : x ≡ paired o p) where
-  pub unpaired : x ≡ false → Unpaired ≡ verdictOf o p h
-  unfolding verdictOf
-  unpaired f = rw (sym e ∙ f) refl
-
-  pub is-ordered : x ≡ true → h ≡ true → Ordered ≡ verdictOf o p h
-  unfolding verdictOf
-  is-ordered f g = rw (sym e ∙ f, g) refl
-
-  pub is-commuting : {m : Bool} → x ≡ true → h ≡ false → m ≡ commutes (effectOf o) (effectOf p) → m ≡ true → Commuting ≡ verdictOf o p h
-  unfolding verdictOf
-  is-commuting f g d k = rw (sym e ∙ f, g, sym d ∙ k) refl
-
-  pub is-listed : {m : Bool} → x ≡ true → h ≡ false → m ≡ commutes (effectOf o) (effectOf p) → m ≡ false → Listed ≡ verdictOf o p h
-  unfolding verdictOf
-  is-listed f g d k = rw (sym e ∙ f, g, sym d ∙ k) refl
-
--- ---- arms of a match on an operation
-pub second-arm : (v : Effect) {r : Bool} {o form : Operation} → o ≡ form → r ≡ commutes v (effectOf form) → r ≡ commutes v (effectOf o)
-second-arm v e h = h ∙ ap (λ (x : Operation). commutes v (effectOf x)) (sym e)
-
-pub first-arm : (v : Effect) {r : Bool} {o form : Operation} → o ≡ form → r ≡ commutes (effectOf form) v → r ≡ commutes (effectOf o) v
-first-arm v e h = h ∙ ap (λ (x : Operation). commutes (effectOf x) v) (sym e)
-
-pub with-idle : (v : Effect) → true ≡ commutes v idle
-with-idle v = sym (commutes-sym v idle ∙ idle-commutes v)
-
-pub idle-with : (v : Effect) → true ≡ commutes idle v
-idle-with v = sym (idle-commutes v)
 
 -- ---- the counts
 -- where every count is small, they are

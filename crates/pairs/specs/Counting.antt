@@ -1,12 +1,10 @@
 -- Document 01, "The list": n(n-1)/2 pairs for n table events of a switch, summed over switches. And the counts as the code keeps
 -- them: of each pair one verdict.
-use mathlib.Core.Bool.{Bool, true, false, _&&_, cond}
+use mathlib.Core.Bool.{Bool, true, false, _&&_}
 use mathlib.Core.List.{List}
 use Prim.Native.Nat.{ℕ, zero, suc, _+_, _-_, _*_, _/_, _≤_}
 use lib.Dec.{eqb}
-use Rattle.table.specs.FlowTable.{effectOf}
-use Rattle.commute.specs.Commuting.{commutes}
-use Rattle.orders.specs.Tables.{usesTable, switchOf, paired}
+use Rattle.orders.specs.Tables.{usesTable, switchOf}
 use Rattle.events.specs.Events.{eventAt}
 use Rattle.pairs.specs.Types.{Operation, Event, Counts, Verdict, Unpaired, Ordered, Commuting, Listed}
 use Rattle.pairs.specs.List.{Kind, pairs, ordered, commuting, listed, gather, cell, test, Pair}
@@ -36,10 +34,6 @@ tableEvents es n w = countBelow (λ k. onTable w (eventAt es k .operation)) n
 -- the pairs among n things
 unfoldable pub choose : ℕ → ℕ
 choose n = n * (n - 1) / 2
-
--- the verdict on two operations, where h says whether the first event happens before the second
-unfoldable pub verdictOf : Operation → Operation → Bool → Verdict
-verdictOf o p h = cond (paired o p) (cond h Ordered (cond (commutes (effectOf o) (effectOf p)) Commuting Listed)) Unpaired
 
 -- a verdict counts for a kind
 abbrev pub counts : Kind → Verdict → Bool

@@ -5,5 +5,5 @@ pub use Rattle.table.specs.declared.operation.Operation.the-variants.{Other, Ba
 pub use Rattle.events.specs.declared.event.Event.{Event}
 pub use Rattle.events.specs.declared.trace.Trace.{Trace}
 pub use Rattle.pairs.specs.declared.counts.Counts.{Counts}
-pub use Rattle.pairs.specs.declared.verdict.Verdict.{Verdict}
-pub use Rattle.pairs.specs.declared.verdict.Verdict.the-variants.{Unpaired, Ordered, Commuting, Listed}
+pub use Rattle.verdicts.specs.declared.verdict.Verdict.{Verdict}
+pub use Rattle.verdicts.specs.declared.verdict.Verdict.the-variants.{Unpaired, Ordered, Commuting, Listed}

@@ -1,5 +1,5 @@
 // The four counts of the list.
-use crate::verdict::Verdict;
+use verdicts::Verdict;
 ghost use mathlib.Core.Path.{_≡_};
 ghost use Prim.Native.Nat.{_+_};
 ghost use Rattle.pairs.specs.List.{Kind};

@@ -1,8 +1,6 @@
 // The list: the pairs of table events of one switch, judged and counted, and the listed ones written down.
 pub mod counts;
 pub mod pass;
-pub mod verdict;
 
 pub use counts::Counts;
 pub use pass::scan;
-pub use verdict::Verdict;

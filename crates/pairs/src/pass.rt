@@ -1,8 +1,8 @@
 // One pass over the pairs of a trace: one verdict a pair.
 use crate::counts::Counts;
-use crate::verdict::Verdict;
-use crate::verdict::verdict_of;
 use events::Trace;
+use verdicts::Verdict;
+use verdicts::verdict_of;
 ghost use mathlib.Core.Path.{_≡_};
 ghost use Prim.Native.Nat.{_+_, _≤_};
 ghost use lib.ListN.{length};

@@ -1,11 +1,6 @@
-use Rattle.commute.specs.Commuting.{add-deln}
 use borrow.Author.Needs.{needs}
 use Rattle.commute.proofs.rows.add_delete.Statement.{statement}
 use Rattle.commute.proofs.rows.add_delete.Tie as tie
 
-returns : tie.Need-returns
-unfolding add-deln
-returns c = cc
-
 pub add-delete-spec : {M : Type 1} → statement M
-add-delete-spec = tie.close (tie.spec (λ c κs. search needs) returns)
+add-delete-spec = tie.close (tie.spec (λ c κs. search needs) (λ c. cc))

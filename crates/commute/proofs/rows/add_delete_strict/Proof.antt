@@ -1,11 +1,6 @@
-use Rattle.commute.specs.Commuting.{add-dels}
 use borrow.Author.Needs.{needs}
 use Rattle.commute.proofs.rows.add_delete_strict.Statement.{statement}
 use Rattle.commute.proofs.rows.add_delete_strict.Tie as tie
 
-returns : tie.Need-returns
-unfolding add-dels
-returns c = rw (c .same .ensures)
-
 pub add-delete-strict-spec : {M : Type 1} → statement M
-add-delete-strict-spec = tie.close (tie.spec (λ c κs. search needs) returns)
+add-delete-strict-spec = tie.close (tie.spec (λ c κs. search needs) (λ c. rw (c .same .ensures)))

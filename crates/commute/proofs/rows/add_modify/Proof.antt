@@ -1,20 +1,16 @@
-use mathlib.Core.Path.{_∙_}
-use Rattle.commute.specs.Commuting.{add-modn}
-use Rattle.commute.proofs.Decided.{was-not, was-false, was-true, or-first, add-modn-no, add-modn-key}
+use Rattle.commute.proofs.Decided.{was-false, was-true}
 use borrow.Author.Needs.{needs}
 use Rattle.commute.proofs.rows.add_modify.Statement.{statement}
 use Rattle.commute.proofs.rows.add_modify.Tie as tie
 
 returns : tie.Need-returns
-unfolding add-modn
-returns c = or-first _ (was-not (c .before .within .ensures) (c .if1 .taken))
+returns c = rw (was-false (c .before .within .ensures) (c .if1 .taken))
 
 returns-2 : tie.Need-returns-2
-returns-2 c = add-modn-no _ _ _ _ (was-not (c .before .before .before .within .ensures) (c .before .before .if1 .left)) (was-false (c .before .same .ensures) (c .if2 .taken))
+returns-2 c = rw (was-true (c .before .before .before .within .ensures) (c .before .before .if1 .left), was-false (c .before .same .ensures) (c .if2 .taken))
 
 returns-3 : tie.Need-returns-3
-unfolding add-modn
-returns-3 c = c .same2 .ensures ∙ add-modn-key _ (was-not (c .before .before .before .before .within .ensures) (c .before .before .before .if1 .left)) (was-true (c .before .before .same .ensures) (c .before .if2 .left))
+returns-3 c = rw (was-true (c .before .before .before .before .within .ensures) (c .before .before .before .if1 .left), was-true (c .before .before .same .ensures) (c .before .if2 .left), c .same2 .ensures)
 
 pub add-modify-spec : {M : Type 1} → statement M
 add-modify-spec = tie.close (tie.spec (λ c κs. search needs) returns (λ c κs. search needs) returns-2 (λ c κs. search needs) returns-3)

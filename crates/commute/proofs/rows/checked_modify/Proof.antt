@@ -1,15 +1,12 @@
-use Rattle.commute.specs.Commuting.{addc-modn, addc-other}
 use Rattle.commute.proofs.Decided.{was}
 use borrow.Author.Needs.{needs}
 use Rattle.commute.proofs.rows.checked_modify.Statement.{statement}
 use Rattle.commute.proofs.rows.checked_modify.Tie as tie
 
 returns : tie.Need-returns
-unfolding addc-modn addc-other
 returns c = rw (was (c .before .within .ensures) (c .if1 .taken))
 
 returns-2 : tie.Need-returns-2
-unfolding addc-modn addc-other
 returns-2 c = rw (was (c .before .before .within .ensures) (c .before .if1 .left), c .checked-other .ensures)
 
 pub checked-modify-spec : {M : Type 1} → statement M

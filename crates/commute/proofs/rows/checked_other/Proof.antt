@@ -1,15 +1,12 @@
-use Rattle.commute.specs.Commuting.{addc-other}
 use borrow.Author.Tests.{ne-eqb}
 use borrow.Author.Needs.{needs}
 use Rattle.commute.proofs.rows.checked_other.Statement.{statement}
 use Rattle.commute.proofs.rows.checked_other.Tie as tie
 
 returns : tie.Need-returns
-unfolding addc-other
 returns c = rw (ne-eqb _ _ (c .if1 .taken))
 
 returns-2 : tie.Need-returns-2
-unfolding addc-other
 returns-2 c = rw (c .clash .ensures)
 
 pub checked-other-spec : {M : Type 1} → statement M

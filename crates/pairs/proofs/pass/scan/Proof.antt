@@ -10,7 +10,8 @@ use Rattle.events.specs.Events.{eventsOf}
 use Rattle.events.proofs.TraceLaws.{length-mapped, length-events, event-at}
 use Rattle.pairs.specs.Types.{Event}
 use Rattle.pairs.specs.List.{Kind, listed, test, Pair, pairBytes, ofKind}
-use Rattle.pairs.specs.Counting.{countOf, rowOf, verdictOf}
+use Rattle.verdicts.specs.Verdicts.{verdictOf}
+use Rattle.pairs.specs.Counting.{countOf, rowOf}
 use Rattle.pairs.proofs.PairLaws.{row-start, row-most, small-of, count-turn, bytes-turn, rowsBelow, below-most, below-count, below-bytes, all-rows, counted}
 use Rattle.pairs.proofs.pass.scan.Statement.{statement}
 use Rattle.pairs.proofs.pass.scan.Tie as tie

@@ -3,9 +3,5 @@ use borrow.Author.Needs.{needs}
 use Rattle.flow.proofs.action.Action.same.Statement.{statement}
 use Rattle.flow.proofs.action.Action.same.Tie as tie
 
-returns : tie.Need-returns
-unfolding sameAction
-returns c = rw (c .code2 .ensures, c .before .code .ensures)
-
 pub same-spec : {M : Type 1} → statement M
-same-spec = tie.close (tie.spec (λ c κs. search needs) (λ c κs. search needs) returns)
+same-spec = tie.close (tie.spec (λ c κs. search needs) (λ c κs. search needs) (λ c. unfold sameAction in rw (c .code2 .ensures, c .before .code .ensures)))

@@ -8,7 +8,7 @@ returns : tie.Need-returns
 returns c = sym (other-priority _ _ (c .if1 .taken))
 
 returns-2 : tie.Need-returns-2
-returns-2 c = c .same .ensures ∙ sym (one-priority _ _ (c .before .before .before .if1 .left))
+returns-2 c = c .same .ensures ∙ sym (one-priority _ _ (c .before .if1 .left))
 
 pub same-spec : {M : Type 1} → statement M
 same-spec = tie.close (tie.spec returns (λ c κs. search needs) returns-2)

@@ -2,8 +2,5 @@ use borrow.Author.Needs.{needs}
 use Rattle.flow.proofs.exact.Exact.order.Statement.{statement}
 use Rattle.flow.proofs.exact.Exact.order.Tie as tie
 
-returns : tie.Need-returns
-returns c = rw (c .order-of .ensures, c .before .rank2 .ensures, c .before .before .rank .ensures)
-
 pub order-spec : {M : Type 1} → statement M
-order-spec = tie.close (tie.spec (λ c κs. search needs) (λ c κs. search needs) (λ c κs. search needs) returns)
+order-spec = tie.close (tie.spec (λ c κs. search needs) (λ c κs. search needs) (λ c κs. search needs) (λ c. rw (c .order-of .ensures, c .before .rank2 .ensures, c .before .before .rank .ensures)))

@@ -2,10 +2,5 @@ use borrow.Author.Needs.{needs}
 use Rattle.flow.proofs.exact.Exact.within.Statement.{statement}
 use Rattle.flow.proofs.exact.Exact.within.Tie as tie
 
-returns-3 : tie.Need-returns-3
-returns-3 c = rw (c .before .before .before .before .other .given .1, c .before .self .given .1)
-
 pub within-spec : {M : Type 1} → statement M
-within-spec =
-    tie.close
-    (tie.spec (λ c. search needs) (λ c. search needs) (λ c. search needs) (λ c. search needs) (λ c. search needs) (λ c. search needs) returns-3)
+within-spec = tie.close (tie.spec (λ c. search needs) (λ c. search needs) (λ c. search needs) (λ c. search needs) (λ c. search needs) (λ c. search needs) (λ c. rw (c .before .before .before .before .other .given .1, c .before .self .given .1)))

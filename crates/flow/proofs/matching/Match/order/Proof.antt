@@ -4,12 +4,5 @@ use borrow.Author.Needs.{needs}
 use Rattle.flow.proofs.matching.Match.order.Statement.{statement}
 use Rattle.flow.proofs.matching.Match.order.Tie as tie
 
-returns : tie.Need-returns
-unfolding matchOrder rank
-returns c = c .order6 .ensures ∙ ap (thenBy _) (c .before .order5 .ensures ∙ ap (thenBy _) (ap (thenBy _) (c .before .before .order4 .ensures ∙ ap (thenBy _) (ap (thenBy _) (c .before .before .before .order3 .ensures ∙ ap (thenBy _) (c .before .before .before .before .order2 .ensures ∙ ap (thenBy _) (c .before .before .before .before .before .order .ensures)))))))
-
 pub order-spec : {M : Type 1} → statement M
-order-spec =
-    tie.close
-    (tie.spec (λ c κs. search needs) (λ c κs. search needs) (λ c κs. search needs) (λ c κs. search needs) (λ c κs. search needs) (λ c κs. search needs)
-    returns)
+order-spec = tie.close (tie.spec (λ c κs. search needs) (λ c κs. search needs) (λ c κs. search needs) (λ c κs. search needs) (λ c κs. search needs) (λ c κs. search needs) (λ c. unfold matchOrder rank in c .order6 .ensures ∙ ap (thenBy _) (c .before .order5 .ensures ∙ ap (thenBy _) (ap (thenBy _) (c .before .before .order4 .ensures ∙ ap (thenBy _) (ap (thenBy _) (c .before .before .before .order3 .ensures ∙ ap (thenBy _) (c .before .before .before .before .order2 .ensures ∙ ap (thenBy _) (c .before .before .before .before .before .order .ensures)))))))))

@@ -1,34 +1,7 @@
 use Rattle.flow.specs.Matches.{within}
-use Rattle.flow.proofs.Booleans.{fails, holds}
 use borrow.Author.Needs.{needs}
 use Rattle.flow.proofs.matching.Match.within.Statement.{statement}
 use Rattle.flow.proofs.matching.Match.within.Tie as tie
 
-returns : tie.Need-returns
-unfolding within
-returns c = fails _ (c .before .within .ensures) (c .if1 .taken)
-
-returns-2 : tie.Need-returns-2
-unfolding within
-returns-2 c = holds (c .before .before .before .within .ensures) (c .before .before .if1 .left) (fails _ (c .before .within2 .ensures) (c .if2 .taken))
-
-returns-3 : tie.Need-returns-3
-unfolding within
-returns-3 c = holds (c .before .before .before .before .before .within .ensures) (c .before .before .before .before .if1 .left) (holds (c .before .before .before .within2 .ensures) (c .before .before .if2 .left) (fails _ (c .before .within3 .ensures) (c .if3 .taken)))
-
-returns-4 : tie.Need-returns-4
-unfolding within
-returns-4 c = holds (c .before .before .before .before .before .before .before .within .ensures) (c .before .before .before .before .before .before .if1 .left) (holds (c .before .before .before .before .before .within2 .ensures) (c .before .before .before .before .if2 .left) (holds (c .before .before .before .within3 .ensures) (c .before .before .if3 .left) (fails _ (c .before .within4 .ensures) (c .if4 .taken))))
-
-returns-5 : tie.Need-returns-5
-unfolding within
-returns-5 c = holds (c .before .before .before .before .before .before .before .before .before .within .ensures) (c .before .before .before .before .before .before .before .before .if1 .left) (holds (c .before .before .before .before .before .before .before .within2 .ensures) (c .before .before .before .before .before .before .if2 .left) (holds (c .before .before .before .before .before .within3 .ensures) (c .before .before .before .before .if3 .left) (holds (c .before .before .before .within4 .ensures) (c .before .before .if4 .left) (fails _ (c .before .within5 .ensures) (c .if5 .taken)))))
-
-returns-6 : tie.Need-returns-6
-unfolding within
-returns-6 c = holds (c .before .before .before .before .before .before .before .before .before .before .within .ensures) (c .before .before .before .before .before .before .before .before .before .if1 .left) (holds (c .before .before .before .before .before .before .before .before .within2 .ensures) (c .before .before .before .before .before .before .before .if2 .left) (holds (c .before .before .before .before .before .before .within3 .ensures) (c .before .before .before .before .before .if3 .left) (holds (c .before .before .before .before .within4 .ensures) (c .before .before .before .if4 .left) (holds (c .before .before .within5 .ensures) (c .before .if5 .left) (c .within6 .ensures)))))
-
 pub within-spec : {M : Type 1} → statement M
-within-spec =
-    tie.close
-    (tie.spec (λ c κs. search needs) returns (λ c κs. search needs) returns-2 (λ c κs. search needs) returns-3 (λ c κs. search needs) returns-4 (λ c κs. search needs) returns-5 (λ c κs. search needs) returns-6)
+within-spec = tie.close (tie.spec (λ c κs. search needs) (λ c κs. search needs) (λ c κs. search needs) (λ c κs. search needs) (λ c κs. search needs) (λ c κs. search needs) (λ c. unfold within in rw (c .before .before .before .before .before .within .ensures, c .before .before .before .before .within2 .ensures, c .before .before .before .within3 .ensures, c .before .before .within4 .ensures, c .before .within5 .ensures, c .within6 .ensures)))

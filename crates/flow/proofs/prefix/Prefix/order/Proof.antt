@@ -2,10 +2,5 @@ use borrow.Author.Needs.{needs}
 use Rattle.flow.proofs.prefix.Prefix.order.Statement.{statement}
 use Rattle.flow.proofs.prefix.Prefix.order.Tie as tie
 
-returns : tie.Need-returns
-returns c = rw (c .order-of2 .ensures, c .before .order-of .ensures)
-
 pub order-spec : {M : Type 1} → statement M
-order-spec =
-    tie.close
-    (tie.spec (λ c. search needs) (λ c. search needs) (λ c κs. search needs) (λ c κs. search needs) returns)
+order-spec = tie.close (tie.spec (λ c. search needs) (λ c. search needs) (λ c κs. search needs) (λ c κs. search needs) (λ c. rw (c .order-of2 .ensures, c .before .order-of .ensures)))

@@ -1,0 +1,5 @@
+// The verdict on a pair of operations: no pair, or ordered, commuting or listed.
+pub mod verdict;
+
+pub use verdict::Verdict;
+pub use verdict::verdict_of;

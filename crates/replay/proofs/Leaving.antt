@@ -17,9 +17,10 @@ use Rattle.rules.specs.Normal.{normalText}
 use Rattle.schedule.specs.Schedule.{orderRefusal}
 use Rattle.schedule.proofs.Accepted.{accepted-iff}
 use Rattle.answers.specs.Answers.{keptAt}
-use Rattle.running.specs.Running.{runRows, RunsTo}
+use Rattle.runs.specs.Runs.{runRows}
+use Rattle.running.specs.Running.{RunsTo}
 use Rattle.answers.specs.Answers.{answersText}
-use Rattle.running.proofs.EndTables.{run-length}
+use Rattle.runs.proofs.EndTables.{run-length}
 use Rattle.replay.specs.Types.{Refusal, TablesShort, AnswersShort, Answer, Event, Trace, Row, Rows, Ran, ReplayAnswer, Lengths, Refused}
 use Rattle.replay.specs.Replay.{Replayed, bothTexts, textsOf, fitting, ranFrom, unless, ordered, onward, replayed, answerOf, tablesIn, answersAt, replayAnswer, tablesAfter, answersAfter, Leaves}
 

@@ -11,7 +11,7 @@ use Rattle.trace.specs.TraceText.{readTrace}
 use Rattle.rules.specs.TableText.{readTables}
 use Rattle.rules.specs.Normal.{normalText}
 use Rattle.schedule.specs.Schedule.{orderRefusal}
-use Rattle.running.specs.Running.{runRows, answersIn}
+use Rattle.runs.specs.Runs.{runRows, answersIn}
 use Rattle.answers.specs.Answers.{answersText}
 use Rattle.replay.specs.Types.{Refusal, TooManyEntries, TablesShort, AnswersShort, Answer, Event, Row, ReplayAnswer, Lengths, Refused}
 

@@ -12,9 +12,9 @@ use Rattle.rules.specs.TableText.{readTables, HoldSame}
 use Rattle.rules.proofs.Accepted.{accepted-sorted}
 use Rattle.schedule.specs.Schedule.{orderRefusal}
 use Rattle.schedule.proofs.Accepted.{accepted-iff, recorded-accepted}
-use Rattle.running.specs.Types.{Silent}
-use Rattle.running.specs.Running.{operationAt, runRows, answersIn, givenOr}
-use Rattle.running.proofs.EndTables.{run-tables, run-answers}
+use Rattle.runs.specs.Types.{Silent}
+use Rattle.runs.specs.Runs.{operationAt, runRows, answersIn, givenOr}
+use Rattle.runs.proofs.EndTables.{run-tables, run-answers}
 use Rattle.replay.specs.Types.{Event, Row}
 use Rattle.replay.specs.Allowed.{recorded, Allowed}
 use Rattle.writing.specs.Writing.{Replayed, fitting}

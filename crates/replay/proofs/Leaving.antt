@@ -14,8 +14,9 @@ use Rattle.rules.specs.TableText.{readTables}
 use Rattle.schedule.specs.Schedule.{orderRefusal}
 use Rattle.schedule.proofs.Accepted.{accepted-iff}
 use Rattle.answers.specs.Answers.{keptAt}
-use Rattle.running.specs.Running.{runRows, RunsTo}
-use Rattle.running.proofs.EndTables.{run-length}
+use Rattle.runs.specs.Runs.{runRows}
+use Rattle.running.specs.Running.{RunsTo}
+use Rattle.runs.proofs.EndTables.{run-length}
 use Rattle.replay.specs.Types.{Refusal, Event, Trace, Row, Rows, Ran, ReplayAnswer, Refused}
 use Rattle.writing.specs.Writing.{Replayed, bothTexts, fitting, Leaves}
 use Rattle.writing.proofs.Leaving.{leaves-as, refused-as}

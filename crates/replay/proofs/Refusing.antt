@@ -15,8 +15,8 @@ use Rattle.rules.specs.TableText.{readTables}
 use Rattle.rules.proofs.Accepted.{accepted-length}
 use Rattle.schedule.specs.Schedule.{orderRefusal}
 use Rattle.schedule.proofs.Accepted.{accepted-iff}
-use Rattle.running.specs.Running.{runRows}
-use Rattle.running.proofs.EndTables.{run-length}
+use Rattle.runs.specs.Runs.{runRows}
+use Rattle.runs.proofs.EndTables.{run-length}
 use Rattle.replay.specs.Types.{Refusal, TablesShort, AnswersShort, Event, Row}
 use Rattle.writing.specs.Writing.{Replayed, fitting, answerOf, tablesIn, answersAt}
 use Rattle.replay.specs.Replay.{textsOf, ranFrom, ordered, replayed, replayAnswer, tablesAfter, answersAfter, LongEnough, Writes}

@@ -17,9 +17,9 @@ use Rattle.pairs.proofs.Theorems.{list-is-orders-listed}
 use Rattle.rules.specs.TableText.{readTables, HoldSame}
 use Rattle.rules.proofs.Theorems.{normal-accepted, same-normal}
 use Rattle.schedule.proofs.Accepted.{recorded-order}
-use Rattle.running.specs.Types.{Silent}
-use Rattle.running.specs.Running.{operationAt, runRows, answersIn, givenOr}
-use Rattle.running.proofs.EndTables.{run-tables, run-answers, run-sorted}
+use Rattle.runs.specs.Types.{Silent}
+use Rattle.runs.specs.Runs.{operationAt, runRows, answersIn, givenOr}
+use Rattle.runs.proofs.EndTables.{run-tables, run-answers, run-sorted}
 use Rattle.replay.specs.Types.{Event, Row}
 use Rattle.replay.specs.Allowed.{recorded, Allowed}
 use Rattle.writing.specs.Writing.{bothTexts}

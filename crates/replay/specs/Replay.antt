@@ -10,7 +10,7 @@ use lib.ListN.{length}
 use Rattle.trace.specs.TraceText.{readTrace}
 use Rattle.rules.specs.TableText.{readTables}
 use Rattle.schedule.specs.Schedule.{orderRefusal}
-use Rattle.running.specs.Running.{runRows, answersIn}
+use Rattle.runs.specs.Runs.{runRows, answersIn}
 use Rattle.writing.specs.Writing.{Replayed, bothTexts, fitting, answerOf, startingWith, tablesIn, answersAt}
 use Rattle.replay.specs.Types.{Refusal, TooManyEntries, TablesShort, AnswersShort, Event, Row, ReplayAnswer, Lengths}
 

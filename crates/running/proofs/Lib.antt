@@ -1,4 +1,1 @@
 pub mod RunLaws
-pub mod WorkLaws
-pub mod EndTables
-pub mod Answering

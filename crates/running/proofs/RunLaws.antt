@@ -1,21 +1,23 @@
 -- The turns of a run: one event more. Assumes nothing.
 use mathlib.Core.Path.{_≡_, refl, sym, ap, _∙_}
-use mathlib.Core.Bool.{cond}
+use mathlib.Core.Bool.{Bool, true, cond}
 use mathlib.Core.List.{List, _∷_}
-use Prim.Native.Nat.{ℕ, zero, suc, _+_, _≤_, _<_}
+use Prim.Native.Nat.{ℕ, _+_, _≤_, _<_}
 use native.Mathlib.Numerals.{add-one}
 use native.Mathlib.Omega.{arith}
 use lib.Dec.{eqb, ltb}
-use lib.ListN.{length, getD, set, take, drop, drop-of-length-le, length-take, List·getD-eq-default}
+use lib.ListN.{length, getD, set, take, drop, length-set, drop-of-length-le, length-take, List·getD-eq-default}
 use lib.Seq.{drop-cons, getD-set-same, getD-set-other}
 use borrow.Author.Tests.{eqb-true, eqb-false, ltb-true, ltb-false}
 use Rattle.flow.proofs.Booleans.{split}
+use Rattle.rows.specs.Rows.{SortedRows}
 use Rattle.stepping.specs.Stepping.{stepRows, replyRows}
+use Rattle.stepping.proofs.Steps.{sorted-step}
 use Rattle.events.specs.Events.{eventsOf, noEvent}
 use Rattle.events.proofs.TraceLaws.{event-at}
-use Rattle.running.specs.Types.{Operation, Other, Answer, Silent, Event, Trace, Row, Kept}
-use Rattle.running.specs.Running.{operationAt, runRows, keptIn, answersIn}
 use Rattle.answers.specs.Answers.{kept, noAnswer, keptAt}
+use Rattle.runs.specs.Runs.{operationAt, runRows, keptIn, answersIn}
+use Rattle.running.specs.Types.{Other, Answer, Silent, Event, Trace, Row, Kept}
 
 at-place : (o : List ℕ) (p : ℕ) → p < length o → drop p o ≡ getD o p 0 ∷ drop (p + 1) o
 at-place o p h = rw (add-one, drop-cons o p 0)
@@ -28,11 +30,6 @@ operation-here t e =
     (λ u. rw u (sym (ap (λ v. v .operation) (event-at t e (ltb-true e (t .len) u)))))
     (λ u. rw u (sym (ap (λ v. v .operation) (List·getD-eq-default (take (t .len) (t .events)) noEvent {n = e} (omega (arith, length-take (t .len) (t .events), ltb-false e (t .len) u))))))
 
--- no answers yet
-pub started : (es : List Event) (i : ℕ) (o : List ℕ) (rs : List Row) {a : Answer} → a ≡ Silent → keptIn es i o rs a ≡ answersIn es o rs i
-unfolding answersIn
-started es i o rs e = ap (keptIn es i o rs) e
-
 -- an answer stored
 kept-set : (ks : List Kept) (e i : ℕ) (k : Kept) → e < length ks → keptAt (set ks e k) i ≡ cond (eqb i e) (k .answer) (keptAt ks i)
 kept-set ks e i k l =
@@ -40,30 +37,54 @@ kept-set ks e i k l =
     (λ u. rw u (ap (keptAt (set ks e k)) (eqb-true i e u) ∙ ap (λ x. x .answer) (getD-set-same ks e k noAnswer l)))
     (λ u. rw u (ap (λ x. x .answer) (getD-set-other ks e i k noAnswer (eqb-false i e u))))
 
-module _ (es : List Event) (o : List ℕ) (p : ℕ) where
-  module _ (h : p < length o) (rs xs : List Row) (operation : Operation) (same : operation ≡ operationAt es (getD o p 0)) (stepped : xs ≡ stepRows operation rs) where
-    left : stepRows (operationAt es (getD o p 0)) rs ≡ xs
-    left = ap (λ f. stepRows f rs) (sym same) ∙ sym stepped
+-- a run of o that has come to place p: the rest of the order does to the rows so far, and keeps beside the answers so far, what the
+-- order does from the start; b where the rows were in order
+pub record Runs (es : List Event) (o : List ℕ) (b : Bool) (start : List Row) (len₀ p : ℕ) (ks : List Kept) (len : ℕ) (l : List Row) : Type 0 where
+  pub here : p ≤ length o
+  pub room : length ks ≡ 256
+  pub count : len ≤ len₀ + p
+  pub size : length l ≡ 512
+  pub sorted : b ≡ true → SortedRows (take len l)
+  pub rows : runRows es (drop p o) (take len l) ≡ runRows es o start
+  pub answers : (i : ℕ) → keptIn es i (drop p o) (take len l) (keptAt ks i) ≡ answersIn es o start i
 
-    -- the rest of the order from here does what it does from the rows that the event leaves
-    pub run-turn : {total : List Row} → runRows es (drop p o) rs ≡ total → runRows es (drop (p + 1) o) xs ≡ total
+module _ (es : List Event) (o : List ℕ) (b : Bool) (len : ℕ) (l : List Row) (ks : List Kept) where
+  pub run-start : length ks ≡ 256 → ((i : ℕ) → keptAt ks i ≡ Silent) → length l ≡ 512 → (b ≡ true → SortedRows (take len l)) → Runs es o b (take len l) len 0 ks len l
+  unfolding answersIn
+  run-start r k s q = record {
+    here = omega arith;
+    room = r;
+    count = omega arith;
+    size = s;
+    sorted = q;
+    rows = refl;
+    answers = λ i. ap (keptIn es i o (take len l)) (k i);
+  }
+
+  module _ (start : List Row) (len₀ p : ℕ) (r : Runs es o b start len₀ p ks len l) where
+    -- one event more, by the rows that it leaves and its answer
+    pub run-turn : p < length o → getD o p 0 < 256 → (len₁ : ℕ) (l₁ : List Row) (a : Answer) → len₁ ≤ len + 1 → length l₁ ≡ 512
+        → take len₁ l₁ ≡ stepRows (operationAt es (getD o p 0)) (take len l) → a ≡ replyRows (operationAt es (getD o p 0)) (take len l)
+        → Runs es o b start len₀ (p + 1) (set ks (getD o p 0) (kept a)) len₁ l₁
+    unfolding runRows keptIn
+    run-turn h e len₁ l₁ a g s f q = record {
+      here = omega arith;
+      room = rw length-set (r .room);
+      count = omega (arith, r .count);
+      size = s;
+      sorted = λ z. rw f (sorted-step _ _ (r .sorted z));
+      rows = ap (runRows es (drop (p + 1) o)) f ∙ sym (ap (λ z. runRows es z (take len l)) (at-place o p h)) ∙ r .rows;
+      answers = λ i.
+          ap (λ z. keptIn es i (drop (p + 1) o) z (keptAt (set ks (getD o p 0) (kept a)) i)) f
+          ∙ ap (keptIn es i (drop (p + 1) o) (stepRows (operationAt es (getD o p 0)) (take len l))) (kept-set ks (getD o p 0) i (kept a) (omega (arith, r .room)) ∙ ap (λ v. cond (eqb i (getD o p 0)) v (keptAt ks i)) q)
+          ∙ sym (ap (λ z. keptIn es i z (take len l) (keptAt ks i)) (at-place o p h)) ∙ r .answers i;
+    }
+
+    -- no event is left
+    pub rows-done : length o ≤ p → take len l ≡ runRows es o start
     unfolding runRows
-    run-turn e = ap (runRows es (drop (p + 1) o)) (sym left) ∙ sym (ap (λ l. runRows es l rs) (at-place o p h)) ∙ e
+    rows-done h = sym (ap (λ z. runRows es z (take len l)) (drop-of-length-le o h)) ∙ r .rows
 
-    pub kept-turn : (i : ℕ) (ks next : List Kept) {total : Answer} → getD o p 0 < length ks → next ≡ set ks (getD o p 0) (kept (replyRows operation rs))
-        → keptIn es i (drop p o) rs (keptAt ks i) ≡ total → keptIn es i (drop (p + 1) o) xs (keptAt next i) ≡ total
+    pub answers-done : length o ≤ p → (i : ℕ) → keptAt ks i ≡ answersIn es o start i
     unfolding keptIn
-    kept-turn i ks next l f e =
-        ap (λ k. keptIn es i (drop (p + 1) o) xs (keptAt k i)) f
-        ∙ ap (keptIn es i (drop (p + 1) o) xs) (kept-set ks (getD o p 0) i (kept (replyRows operation rs)) l ∙ ap (λ b. cond (eqb i (getD o p 0)) (replyRows b rs) (keptAt ks i)) same)
-        ∙ ap (λ l. keptIn es i (drop (p + 1) o) l (cond (eqb i (getD o p 0)) (replyRows (operationAt es (getD o p 0)) rs) (keptAt ks i))) (sym left)
-        ∙ sym (ap (λ l. keptIn es i l rs (keptAt ks i)) (at-place o p h)) ∙ e
-
-  -- no event is left
-  pub run-done : {rs total : List Row} → length o ≤ p → runRows es (drop p o) rs ≡ total → rs ≡ total
-  unfolding runRows
-  run-done {rs} h e = sym (ap (λ l. runRows es l rs) (drop-of-length-le o h)) ∙ e
-
-  pub kept-done : (i : ℕ) (rs : List Row) {a total : Answer} → length o ≤ p → keptIn es i (drop p o) rs a ≡ total → a ≡ total
-  unfolding keptIn
-  kept-done i rs {a} h e = sym (ap (λ l. keptIn es i l rs a) (drop-of-length-le o h)) ∙ e
+    answers-done h i = sym (ap (λ z. keptIn es i z (take len l) (keptAt ks i)) (drop-of-length-le o h)) ∙ r .answers i

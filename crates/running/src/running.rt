@@ -12,12 +12,12 @@ use table::Answer;
 use table::Operation;
 use table::TableOperation;
 ghost use mathlib.Core.Path.{_≡_};
-ghost use mathlib.Core.Bool.{cond};
+ghost use mathlib.Core.Bool.{true, cond};
 ghost use Prim.Native.Nat.{_<_, _≤_};
 ghost use lib.ListN.{length};
 ghost use Rattle.events.specs.Events.{eventsOf};
-ghost use Rattle.running.specs.Types.{Other};
-ghost use Rattle.running.specs.Running.{tableWork, workOf, RunsTo};
+ghost use Rattle.running.specs.Types.{Other, OnTable};
+ghost use Rattle.running.specs.Running.{WorkFor, RunsTo};
 
 // The rows that an order leaves, and the answer of each event under its number.
 pub struct Ran {
@@ -25,49 +25,36 @@ pub struct Ran {
     pub answers: [Kept; 256],
 }
 
-// What an event does; nothing where the trace has no such event.
-fn operation_if(present: bool, e: Event) -> Operation
-    ensures { λ r. ⌜ r ≡ cond present (e .operation) Other ⌝ }
-{
-    if present {
-        e.operation
-    } else {
-        Operation::Other
-    }
-}
-
 // How an event's rows are made: by `step`, or, where it only puts a row in, in place.
 enum Work {
-    Step,
+    Step(Operation),
     Insert(Row),
 }
 
 fn table_work(switch: u8, o: TableOperation) -> Work
-    ensures { λ r. ⌜ r ≡ tableWork switch o ⌝ }
+    ensures { λ r. ⌜ WorkFor true (OnTable switch o) r ⌝ }
 {
     match o {
-        TableOperation::Packet(_) => Work::Step,
         TableOperation::Add(entry) => Work::Insert(Row { switch, entry }),
-        TableOperation::AddChecked(_) => Work::Step,
         TableOperation::ModifyStrict(entry) => Work::Insert(Row { switch, entry }),
-        TableOperation::Modify(_) => Work::Step,
-        TableOperation::DeleteStrict(_) => Work::Step,
-        TableOperation::Delete(_) => Work::Step,
+        _ => Work::Step(Operation::Table(switch, o)),
     }
 }
 
-// In place only among rows that are in order, where its place is searched by halving.
-fn work_of(o: Operation, in_order: bool) -> Work
-    ensures { λ r. ⌜ r ≡ workOf «in_order» o ⌝ }
+// In place only among rows that are in order, where its place is searched by halving; nothing where the trace has no such event.
+fn work_of(present: bool, event: Event, in_order: bool) -> Work
+    ensures { λ r. ⌜ WorkFor «in_order» (cond present (event .operation) Other) r ⌝ }
 {
+    if !present {
+        return Work::Step(Operation::Other);
+    }
+    let o = event.operation;
     if !in_order {
-        return Work::Step;
+        return Work::Step(o);
     }
     match o {
-        Operation::Other => Work::Step,
-        Operation::Barrier(_) => Work::Step,
-        Operation::Message(_) => Work::Step,
         Operation::Table(switch, operation) => table_work(switch, operation),
+        _ => Work::Step(o),
     }
 }
 
@@ -85,16 +72,18 @@ pub fn run(t: Trace, start: Rows, order: &[u8]) -> Ran
     for p in 0..order.len() {
         let e = order[p] as usize;
         let event = t.events[e];
-        let operation = operation_if(e < n, event);
-        let work = work_of(operation, in_order);
-        let Work::Insert(row) = work else {
-            let before = Rows { rows, len };
-            let answer = reply(before, operation);
-            answers[e] = Kept { answer };
-            let after = step(before, operation);
-            rows = after.rows;
-            len = after.len;
-            continue;
+        let work = work_of(e < n, event, in_order);
+        let row = match work {
+            Work::Step(operation) => {
+                let before = Rows { rows, len };
+                let answer = reply(before, operation);
+                answers[e] = Kept { answer };
+                let after = step(before, operation);
+                rows = after.rows;
+                len = after.len;
+                continue;
+            }
+            Work::Insert(row) => row,
         };
         answers[e] = Kept {
             answer: Answer::Silent,
@@ -107,20 +96,20 @@ pub fn run(t: Trace, start: Rows, order: &[u8]) -> Ran
         while search.low < search.at {
             let middle = search.middle();
             let x = rows[middle];
-            let o = row.order(x);
-            let next = search.narrowed(middle, o);
+            let next = search.narrowed(middle, row, x);
             search = next;
         }
         let at = search.at;
-        let mut j = search.moves_to(len);
+        let room = search.room_in(len);
+        let mut j = room.from;
         while at < j {
             let k = j - 1;
             let x = rows[k];
-            rows[k + 1] = x;
+            rows[j] = x;
             j = k;
         }
         rows[at] = row;
-        len = search.count_with(len);
+        len = room.len;
     }
     let end = Rows { rows, len };
     Ran { rows: end, answers }

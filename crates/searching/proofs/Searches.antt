@@ -108,17 +108,17 @@ module _ (a : Row) (l : List Row) (n : ℕ) where
         tells = k .tells;
       }
 
-      module _ {o : Ordering} {r : Search} (e : o ≡ rowOrder a (getD l m d)) (q : r ≡ narrowedBy o s m) where
-        compared : rowOrder a (getD (take n l) m d) ≡ o
-        compared = ap (rowOrder a) (getD-take n l m d (omega (arith, k .within))) ∙ sym e
+      module _ {r : Search} (q : r ≡ narrowedBy (rowOrder a (getD l m d)) s m) where
+        compared : rowOrder a (getD (take n l) m d) ≡ rowOrder a (getD l m d)
+        compared = ap (rowOrder a) (getD-take n l m d (omega (arith, k .within)))
 
         -- of rows in order
         pub search-turn : SortedRows (take n l) → Searched a l n r
-        search-turn z = rw q (narrower o compared (λ f. past-sorted a (take n l) m d under f z))
+        search-turn z = rw q (narrower (rowOrder a (getD l m d)) compared (λ f. past-sorted a (take n l) m d under f z))
 
         -- with the first row that is left
         pub search-next : m ≡ s .low → Searched a l n r
-        search-next z = rw q (narrower o compared (λ f. past-next a (take n l) m d under f (rw z (k .past))))
+        search-next z = rw q (narrower (rowOrder a (getD l m d)) compared (λ f. past-next a (take n l) m d under f (rw z (k .past))))
 
     pub search-end : s .at ≤ s .low → Placed a l n (s .at) (s .same)
     search-end h =

@@ -8,6 +8,7 @@ use Rattle.rows.specs.Types.{Ordering, Less, Equal, Greater}
 use Rattle.rows.specs.declared.row.Row.{Row}
 use Rattle.rows.specs.Rows.{rowOrder, insertRow}
 use Rattle.searching.specs.declared.searching.Search.{Search}
+use Rattle.searching.specs.declared.searching.Room.{Room}
 
 abbrev pub bit : Bool → ℕ
 bit true = 1
@@ -34,3 +35,8 @@ unfoldable pub narrowedBy : Ordering → Search → ℕ → Search
 narrowedBy Less s m = record { low = s .low; at = m; same = false }
 narrowedBy Equal s m = record { low = s .low; at = m; same = true }
 narrowedBy Greater s m = record { low = m + 1; at = s .at; same = s .same }
+
+-- room for a row at index i of n rows, or stored over the one there
+abbrev pub roomFor : Bool → ℕ → ℕ → Room
+roomFor true i n = record { from = i; len = n }
+roomFor false i n = record { from = n; len = n + 1 }

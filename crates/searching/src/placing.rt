@@ -20,8 +20,7 @@ fn place_of(t: Rows, row: Row) -> Search
     while search.low < search.at {
         let i = search.low;
         let x = t.rows[i];
-        let o = row.order(x);
-        let next = search.narrowed(i, o);
+        let next = search.narrowed(i, row, x);
         search = next;
     }
     search
@@ -35,16 +34,19 @@ fn put(t: Rows, place: Search, row: Row) -> Rows
     let n = t.len;
     let at = place.at;
     let mut rows = t.rows;
-    let mut j = place.moves_to(n);
+    let room = place.room_in(n);
+    let mut j = room.from;
     while at < j {
         let k = j - 1;
         let x = rows[k];
-        rows[k + 1] = x;
+        rows[j] = x;
         j = k;
     }
     rows[at] = row;
-    let len = place.count_with(n);
-    Rows { rows, len }
+    Rows {
+        rows,
+        len: room.len,
+    }
 }
 
 pub fn insert(t: Rows, row: Row) -> Rows

@@ -1,9 +1,10 @@
 // The search for a row's place among sorted rows, by halving.
 use flow::Ordering;
+use rows::Row;
 ghost use mathlib.Core.Path.{_≡_};
-ghost use mathlib.Core.Bool.{cond};
 ghost use Prim.Native.Nat.{_+_, _<_, _≤_};
-ghost use Rattle.searching.specs.Searching.{narrowedBy};
+ghost use Rattle.rows.specs.Rows.{rowOrder};
+ghost use Rattle.searching.specs.Searching.{narrowedBy, roomFor};
 
 // The rows before `low` are less than the row, and it goes to `at` unless its place is found between them; `same` where the row at
 // `at` has its switch and key.
@@ -11,6 +12,12 @@ pub struct Search {
     pub low: usize,
     pub at: usize,
     pub same: bool,
+}
+
+// The rows from a place up to `from` move up by one, and then there are `len`.
+pub struct Room {
+    pub from: usize,
+    pub len: usize,
 }
 
 impl Search {
@@ -23,10 +30,11 @@ impl Search {
     }
 
     // What is left to search, by how the row compares with that at the middle.
-    pub fn narrowed(self, middle: usize, o: Ordering) -> Search
+    pub fn narrowed(self, middle: usize, row: Row, other: Row) -> Search
         requires { ⌜ middle < self .at ⌝ }
-        ensures { λ r. ⌜ r ≡ narrowedBy o self middle ⌝ }
+        ensures { λ r. ⌜ r ≡ narrowedBy (rowOrder row other) self middle ⌝ }
     {
+        let o = row.order(other);
         match o {
             Ordering::Less => Search {
                 low: self.low,
@@ -46,25 +54,20 @@ impl Search {
         }
     }
 
-    // Of n rows those from the place up to this index move up: none where the row is stored over another.
-    pub fn moves_to(self, n: usize) -> usize
-        requires { ⌜ self .at ≤ n ⌝ }
-        ensures { λ r. ⌜ (r ≡ cond (self .same) (self .at) n) × (self .at ≤ r) × (r ≤ n) ⌝ }
-    {
-        if self.same {
-            return self.at;
-        }
-        n
-    }
-
-    // How many n rows are with the row.
-    pub fn count_with(self, n: usize) -> usize
+    // Room for the row among n rows: none is made where it is stored over another.
+    pub fn room_in(self, n: usize) -> Room
         requires { ⌜ n < 512 ⌝ }
-        ensures { λ r. ⌜ (r ≡ cond (self .same) n (n + 1)) × (r ≤ n + 1) ⌝ }
+        ensures { λ r. ⌜ r ≡ roomFor (self .same) (self .at) n ⌝ }
     {
         if self.same {
-            return n;
+            return Room {
+                from: self.at,
+                len: n,
+            };
         }
-        n + 1
+        Room {
+            from: n,
+            len: n + 1,
+        }
     }
 }

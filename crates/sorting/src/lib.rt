@@ -31,8 +31,7 @@ pub fn sort(lines: Rows) -> Sorted
         while search.low < search.at {
             let middle = search.middle();
             let y = rows[middle];
-            let o = x.order(y);
-            let next = search.narrowed(middle, o);
+            let next = search.narrowed(middle, x, y);
             search = next;
         }
         if search.same {
@@ -48,7 +47,7 @@ pub fn sort(lines: Rows) -> Sorted
         while at < j {
             let k = j - 1;
             let y = rows[k];
-            rows[k + 1] = y;
+            rows[j] = y;
             j = k;
         }
         rows[at] = x;

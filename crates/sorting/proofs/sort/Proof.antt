@@ -52,14 +52,14 @@ loop2-holds c = search-start _ (c .before .before .loop .rows) (c .before .befor
 
 loop2-less : tie.Need-loop2-less Inv-loop2 μ-loop2 Inv-loop3 μ-loop3 Inv-loop μ-loop
 loop2-less c =
-    let mid = c .before .before .before .middle in
+    let mid = c .before .before .middle in
     search-less _ _ (mid .ensures .0) (mid .ensures .1) _ _ (c .narrowed .ensures)
 
 loop2-again : tie.Need-loop2-again Inv-loop2 μ-loop2 Inv-loop3 μ-loop3 Inv-loop μ-loop
 loop2-again c =
-    let mid = c .before .before .before .middle in
-    let q = c .before .before .before .before .before .before in
-    search-turn _ _ _ _ (q .loop2 .inv) _ (mid .ensures .0) (mid .ensures .1) _ (c .before .order .ensures) (c .narrowed .ensures) (q .before .before .before .loop .inv .4)
+    let mid = c .before .before .middle in
+    let q = c .before .before .before .before .before in
+    search-turn _ _ _ _ (q .loop2 .inv) _ (mid .ensures .0) (mid .ensures .1) _ (c .narrowed .ensures) (q .before .before .before .loop .inv .4)
 
 returns : tie.Need-returns Inv-loop2 μ-loop2 Inv-loop3 μ-loop3 Inv-loop μ-loop
 returns c =
@@ -71,8 +71,9 @@ returns c =
 
 loop3-holds : tie.Need-loop3-holds Inv-loop2 μ-loop2 Inv-loop3 μ-loop3 Inv-loop μ-loop
 loop3-holds c =
-    let l = c .before .before .before .before .before .before .loop in
-    shift-start (c .before .before .before .loop2 .search .at) (l .i) _ (l .i) (omega arith) (omega arith) (l .inv .3)
+    let q = c .before .before .before in
+    let l = q .before .before .before .loop in
+    shift-start (q .loop2 .search .at) (l .i) _ (l .i) (l .i + 1) (q .loop2 .search .same) (rw (c .if2 .left) refl) (l .inv .3) (omega arith)
 
 loop3-again : tie.Need-loop3-again Inv-loop2 μ-loop2 Inv-loop3 μ-loop3 Inv-loop μ-loop
 loop3-again c =
@@ -87,7 +88,7 @@ loop-again c =
     let t = q .before .before .before .before .before .args .t1 in
     let p = search-end _ _ _ _ (q .loop2 .inv) (c .before .before .before .if1 .left) in
     let e = c .before .before .if2 .left in
-    let put = shift-end _ (l .i) _ _ _ _ (m .inv) (omega arith) _ (q .loop2 .search .same) (l .i + 1) (l .inv .3) (c .loop3-test .left) p (rw e refl) (rw e refl) in (
+    let put = shift-end (q .loop2 .search .at) (l .i) _ (l .i) (l .i + 1) (q .loop2 .search .same) (rw e refl) (l .inv .3) _ _ (m .inv) (omega arith) (c .loop3-test .left) _ p in (
       omega arith,
       l .inv .1,
       l .inv .2,
@@ -114,11 +115,11 @@ sort-spec =
     Inv-loop
     μ-loop
     loop-holds (λ c. omega arith) (λ c. omega arith)
-    loop2-holds (λ c κs. search needs) (λ c. omega arith) (λ c. omega arith) (λ c κs. search needs) (λ c κs. c .before .before .middle .ensures .1)
+    loop2-holds (λ c κs. search needs) (λ c. omega arith) (λ c. omega arith) (λ c κs. c .before .middle .ensures .1)
     loop2-less
     loop2-again
     returns
-    loop3-holds (λ c. omega arith) (λ c. omega arith) (λ c. omega arith) (λ c. omega arith) (λ c. omega arith) (λ c. omega arith) (λ c. omega arith)
+    loop3-holds (λ c. omega arith) (λ c. omega arith) (λ c. omega arith) (λ c. omega arith) (λ c. omega arith) (λ c. omega arith)
     loop3-again (λ c. omega arith) (λ c. omega arith) (λ c. omega arith) (λ c. omega arith)
     loop-again
     returns-2)

@@ -28,13 +28,13 @@ element-copy-out-x c = omega arith
 
 loop-less : tie.Need-loop-less Inv-loop μ-loop
 loop-less c =
-    let s = c .before .before .before .before .before .loop .search in
-    search-less s _ (le-refl (s .low)) (c .before .before .before .if1 .taken) _ _ (c .narrowed .ensures)
+    let s = c .before .before .before .before .loop .search in
+    search-less s _ (le-refl (s .low)) (c .before .before .if1 .taken) _ _ (c .narrowed .ensures)
 
 loop-again : tie.Need-loop-again Inv-loop μ-loop
 loop-again c =
-    let q = c .before .before .before .before .before in
-    search-next _ _ _ _ (q .loop .inv) _ (le-refl (q .loop .search .low)) (c .before .before .before .if1 .taken) _ (c .before .order .ensures) (c .narrowed .ensures) refl
+    let q = c .before .before .before .before in
+    search-next _ _ _ _ (q .loop .inv) _ (le-refl (q .loop .search .low)) (c .before .before .if1 .taken) _ (c .narrowed .ensures) refl
 
 returns : tie.Need-returns Inv-loop μ-loop
 returns c =
@@ -48,7 +48,7 @@ place-of-spec =
     μ-loop
     loop-holds
     mul-x
-    element-copy-out-x (λ c κs. search needs) (λ c κs. search needs)
+    element-copy-out-x (λ c κs. search needs)
     loop-less
     loop-again
     returns)

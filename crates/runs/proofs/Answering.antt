@@ -15,10 +15,10 @@ use Rattle.orders.proofs.OrderLaws.{in-range}
 use Rattle.rows.specs.Rows.{tableOf}
 use Rattle.stepping.specs.Stepping.{stepRows, tableReply, replyRows}
 use Rattle.events.specs.Events.{noEvent}
-use Rattle.running.specs.Types.{Lookup, Add, AddChecked, ModifyStrict, Modify, DeleteStrict, Delete, Operation, Other, Barrier, Message, OnTable, Answer, Silent, Event, Row}
-use Rattle.running.specs.Running.{operationAt, keptIn, answersIn}
+use Rattle.runs.specs.Types.{Lookup, Add, AddChecked, ModifyStrict, Modify, DeleteStrict, Delete, Operation, Other, Barrier, Message, OnTable, Answer, Silent, Event, Row}
+use Rattle.runs.specs.Runs.{operationAt, keptIn, answersIn}
 use Rattle.answers.specs.Answers.{hasAnswer, isSilent}
-use Rattle.running.proofs.EndTables.{kept-absent}
+use Rattle.runs.proofs.EndTables.{kept-absent}
 
 -- a packet has an answer, a miss too
 packet-answers : (t : Table) → isSilent (best t) ≡ false

@@ -15,8 +15,8 @@ use Rattle.orders.proofs.OrderLaws.{not-twice}
 use Rattle.rows.specs.Rows.{SortedRows, tableOf, tablesOf}
 use Rattle.stepping.specs.Stepping.{stepRows, replyRows}
 use Rattle.stepping.proofs.Steps.{step-tables, reply-tables, sorted-step, length-step}
-use Rattle.running.specs.Types.{Operation, Answer, Silent, Event, Row}
-use Rattle.running.specs.Running.{operationAt, runRows, keptIn, answersIn, givenOr}
+use Rattle.runs.specs.Types.{Operation, Answer, Silent, Event, Row}
+use Rattle.runs.specs.Runs.{operationAt, runRows, keptIn, answersIn, givenOr}
 
 module _ (ev : ℕ → Operation) where
   stepped : (i : ℕ) (rs : List Row) → SortedRows rs → tablesOf (stepRows (ev i) rs) ≡ stepOf (ev i) (tablesOf rs)

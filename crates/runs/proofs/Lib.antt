@@ -1,0 +1,2 @@
+pub mod EndTables
+pub mod Answering

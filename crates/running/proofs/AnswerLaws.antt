@@ -11,7 +11,7 @@ use lib.ListN.{length, set, take, drop, length-append, length-drop, take-append-
 use lib.Seq.{sets, take-all, length-take-le}
 use Rattle.digits.specs.Print.{printNumber, Put}
 use Rattle.digits.proofs.Writing.{print-length, put-then}
-use Rattle.fields.proofs.Lengths.{action-length}
+use Rattle.putfields.proofs.Lengths.{action-length}
 use Rattle.running.specs.Types.{Answer, Silent, Miss, Hit, Done}
 use Rattle.running.specs.Answers.{evKey, lineFeed, printItem, isSilent, printAnswer, answersText}
 

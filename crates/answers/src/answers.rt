@@ -2,8 +2,8 @@
 use crate::kept::Kept;
 use digits::put_bytes;
 use digits::put_number;
-use fields::put_action;
 use flow::Action;
+use putfields::put_action;
 use table::Answer;
 ghost use mathlib.Core.Path.{_≡_};
 ghost use Prim.Native.Nat.{_≤_, _<_, _^_};

@@ -1,22 +1,19 @@
 -- A line, by what each of its items reads as.
 use Prim.Native.Nat.{ℕ}
-use mathlib.Core.Bool.{Bool, true, false, cond}
 use mathlib.Core.List.{List, [], _∷_}
-use mathlib.Core.Logic.{_⊎_, inl, inr}
+use mathlib.Core.Logic.{_⊎_, inl}
 use mathlib.Core.Option.{Option, none, some}
 use mathlib.Core.Path.{_≡_, refl, sym, ap, _∙_}
 use denote.Enum.Declared.{tagOf}
 use types.Run.{OneOf, miss}
-use lib.Dec.{eqb}
-use lib.ListN.{length}
 use Rattle.digits.specs.Reading.{andThen, mapped, keyed, both}
 use Rattle.digits.specs.Number.{readNumber}
 use Rattle.digits.proofs.Readers.{twice}
 use Rattle.eventline.proofs.words.Word.{the-type}
 use Rattle.eventline.specs.declared.words.Word.the-variants as W
-use Rattle.eventline.specs.Types.{Refusal, TraceMalformed, EventMisnumbered, TraceAddressBit, Operation, Other, Event, Word}
+use Rattle.eventline.specs.Types.{Refusal, TraceMalformed, Operation, Other, Event, Word}
 use Rattle.eventline.specs.Words.{readWord}
-use Rattle.eventline.specs.EventLine.{evKey, doKey, swKey, readSwitch, readOn, readOperation, readParts, eventOf, readBehind, readItems, readNumbered, atEnd, readLine, onLine, readEvent, clearOperation}
+use Rattle.eventline.specs.EventLine.{evKey, doKey, swKey, readSwitch, readOn, readOperation, readParts, eventOf, readBehind, readItems, readNumbered, atEnd, readLine, onLine, readEvent}
 
 -- what an arm reads is what the word asks for
 pub by-word : (w : ℕ) (s : List ℕ) (at : ℕ) {x : Option (Operation × ℕ)} {u v : Word} → u ≡ v → x ≡ readOn v w s at → x ≡ readOn u w s at
@@ -28,21 +25,18 @@ module _ (s : List ℕ) (at : ℕ) where
   unfolding readOperation
   no-switch e = rw e refl
 
-  behind-switch : (u : Word) → OneOf (1 ∷ 2 ∷ 3 ∷ 4 ∷ 5 ∷ 6 ∷ 7 ∷ 8 ∷ 9 ∷ []) (tagOf the-type u) → andThen readSwitch (readOn u) s at ≡ readOperation u s at
+  behind-switch : (u : Word) → OneOf (1 ∷ 2 ∷ 3 ∷ 4 ∷ 5 ∷ 6 ∷ []) (tagOf the-type u) → andThen readSwitch (readOn u) s at ≡ readOperation u s at
   unfolding readOperation
-  behind-switch W.Other h = absurd (miss (1 ∷ 2 ∷ 3 ∷ 4 ∷ 5 ∷ 6 ∷ 7 ∷ 8 ∷ 9 ∷ []) 0 tt h)
+  behind-switch W.Other h = absurd (miss (1 ∷ 2 ∷ 3 ∷ 4 ∷ 5 ∷ 6 ∷ []) 0 tt h)
   behind-switch W.Barrier h = refl
   behind-switch W.Message h = refl
   behind-switch W.Packet h = refl
-  behind-switch W.Add h = refl
-  behind-switch W.AddChecked h = refl
-  behind-switch W.ModifyStrict h = refl
-  behind-switch W.Modify h = refl
+  behind-switch (W.Write a) h = refl
   behind-switch W.DeleteStrict h = refl
   behind-switch W.Delete h = refl
 
   -- where the word's number is not that of `oth`
-  module _ (u : Word) (h : OneOf (1 ∷ 2 ∷ 3 ∷ 4 ∷ 5 ∷ 6 ∷ 7 ∷ 8 ∷ 9 ∷ []) (tagOf the-type u)) where
+  module _ (u : Word) (h : OneOf (1 ∷ 2 ∷ 3 ∷ 4 ∷ 5 ∷ 6 ∷ []) (tagOf the-type u)) where
     pub bad-switch : keyed swKey (readNumber 15) s at ≡ none → none ≡ readOperation u s at
     unfolding andThen readSwitch
     bad-switch e = rw (← behind-switch u h, e) refl
@@ -66,19 +60,3 @@ module _ (k : ℕ) (l : List ℕ) where
         → x ≡ onLine k (atEnd l (mapped (λ p. (n, eventOf p)) (readParts w) l b)) → x ≡ readEvent k l
     unfolding readEvent readLine readNumbered readItems readBehind both andThen mapped
     behind-word {w} {b} e p = p ∙ rw (e₁, e, twice {C = ℕ × Event} (λ e. (n, e)) eventOf (λ p. (n, eventOf p)) (λ p. refl) (readParts w l b))
-
--- 4 at the line's end, 5, 6
-module _ (k n : ℕ) (e : Event) (ended : Bool) where
-  pub not-ended : ended ≡ false → inl (TraceMalformed k) ≡ onLine k (cond ended (some (n, e)) none)
-  not-ended h = rw h refl
-
-  module _ (a : ended ≡ true) where
-    pub other-number : eqb n k ≡ false → inl (EventMisnumbered k) ≡ onLine k (cond ended (some (n, e)) none)
-    other-number h = rw (a, h) refl
-
-    module _ (b : eqb n k ≡ true) where
-      pub address-bit : clearOperation (e .operation) ≡ false → inl (TraceAddressBit k) ≡ onLine k (cond ended (some (n, e)) none)
-      address-bit h = rw (a, b, h) refl
-
-      pub event-read : clearOperation (e .operation) ≡ true → inr e ≡ onLine k (cond ended (some (n, e)) none)
-      event-read h = rw (a, b, h) refl

@@ -8,7 +8,7 @@ use native.Mathlib.Omega.{arith}
 use lib.ListN.{length, drop}
 use Rattle.digits.specs.Reading.{Reader, onRead, andThen, mapped, both}
 use Rattle.digits.specs.Format.{Ends, Follows, Format}
-use Rattle.digits.proofs.Readers.{same-value, same-place, on-read}
+use Rattle.digits.proofs.Readers.{same-value, same-place, on-read, twice}
 use Rattle.digits.proofs.Numbers.{number-format}
 use Rattle.digits.proofs.Format.{space-ends, keyed-format, both-format}
 use Rattle.flow.specs.Matches.{PacketInRange}
@@ -18,8 +18,8 @@ use Rattle.fields.specs.Written.{MatchWritten, KeyWritten, EntryWritten}
 use Rattle.fields.proofs.MatchFormats.{match-follows, match-format, packet-follows, packet-format}
 use Rattle.fields.proofs.EntryFormats.{key-follows, key-format, entry-follows, entry-format}
 use Rattle.eventline.specs.declared.words.Word.the-variants as W
-use Rattle.eventline.specs.Types.{Match, Packet, Key, Entry, Lookup, Add, AddChecked, ModifyStrict, Modify, DeleteStrict, Delete, Operation, Other, Barrier, Message, OnTable, Word}
-use Rattle.eventline.specs.EventLine.{swKey, printSwitch, printOperation, readSwitch, readOn, readOperation, wordOf}
+use Rattle.eventline.specs.Types.{Match, Packet, Key, Entry, Lookup, Add, AddChecked, ModifyStrict, Modify, DeleteStrict, Delete, Operation, Other, Barrier, Message, OnTable, Word, Write}
+use Rattle.eventline.specs.EventLine.{swKey, printSwitch, printOperation, readSwitch, writeOf, readOn, readOperation, wordOf}
 use Rattle.eventline.specs.Written.{OperationWritten}
 
 -- ---- the fields of each word
@@ -28,10 +28,7 @@ Fields W.Other = Unit {0}
 Fields W.Barrier = ℕ
 Fields W.Message = ℕ
 Fields W.Packet = ℕ × Packet
-Fields W.Add = ℕ × Entry
-Fields W.AddChecked = ℕ × Entry
-Fields W.ModifyStrict = ℕ × Entry
-Fields W.Modify = ℕ × Entry
+Fields (W.Write a) = ℕ × Entry
 Fields W.DeleteStrict = ℕ × Key
 Fields W.Delete = ℕ × Match
 
@@ -47,10 +44,7 @@ FieldsWritten W.Other = λ x. Unit {0}
 FieldsWritten W.Barrier = λ w. w ≤ 15
 FieldsWritten W.Message = λ w. w ≤ 15
 FieldsWritten W.Packet = Behind PacketInRange
-FieldsWritten W.Add = Behind EntryWritten
-FieldsWritten W.AddChecked = Behind EntryWritten
-FieldsWritten W.ModifyStrict = Behind EntryWritten
-FieldsWritten W.Modify = Behind EntryWritten
+FieldsWritten (W.Write a) = Behind EntryWritten
 FieldsWritten W.DeleteStrict = Behind KeyWritten
 FieldsWritten W.Delete = Behind MatchWritten
 
@@ -59,10 +53,7 @@ printFields W.Other = λ x. []
 printFields W.Barrier = printSwitch
 printFields W.Message = printSwitch
 printFields W.Packet = printBoth printPacket
-printFields W.Add = printBoth printEntry
-printFields W.AddChecked = printBoth printEntry
-printFields W.ModifyStrict = printBoth printEntry
-printFields W.Modify = printBoth printEntry
+printFields (W.Write a) = printBoth printEntry
 printFields W.DeleteStrict = printBoth printKey
 printFields W.Delete = printBoth printMatch
 
@@ -74,10 +65,7 @@ readFields W.Other = readNothing
 readFields W.Barrier = readSwitch
 readFields W.Message = readSwitch
 readFields W.Packet = both readSwitch readPacket
-readFields W.Add = both readSwitch readEntry
-readFields W.AddChecked = both readSwitch readEntry
-readFields W.ModifyStrict = both readSwitch readEntry
-readFields W.Modify = both readSwitch readEntry
+readFields (W.Write a) = both readSwitch readEntry
 readFields W.DeleteStrict = both readSwitch readKey
 readFields W.Delete = both readSwitch readMatch
 
@@ -91,18 +79,12 @@ nothing-format = record {
   only = λ s at x n e. let y : at ≡ n = same-place e in (tt, rw y refl, rw (add-zero, y) refl);
 }
 
-entry-fields : Format (Behind EntryWritten) (printBoth printEntry) (both readSwitch readEntry)
-entry-fields = both-format entry-follows switch-format entry-format
-
 fields-format : (w : Word) → Format (FieldsWritten w) (printFields w) (readFields w)
 fields-format W.Other = nothing-format
 fields-format W.Barrier = switch-format
 fields-format W.Message = switch-format
 fields-format W.Packet = both-format packet-follows switch-format packet-format
-fields-format W.Add = entry-fields
-fields-format W.AddChecked = entry-fields
-fields-format W.ModifyStrict = entry-fields
-fields-format W.Modify = entry-fields
+fields-format (W.Write a) = both-format entry-follows switch-format entry-format
 fields-format W.DeleteStrict = both-format key-follows switch-format key-format
 fields-format W.Delete = both-format match-follows switch-format match-format
 
@@ -112,10 +94,7 @@ make W.Other = λ x. Other
 make W.Barrier = Barrier
 make W.Message = Message
 make W.Packet = λ (w, p). OnTable w (Lookup p)
-make W.Add = λ (w, e). OnTable w (Add e)
-make W.AddChecked = λ (w, e). OnTable w (AddChecked e)
-make W.ModifyStrict = λ (w, e). OnTable w (ModifyStrict e)
-make W.Modify = λ (w, e). OnTable w (Modify e)
+make (W.Write a) = λ (w, e). OnTable w (writeOf a e)
 make W.DeleteStrict = λ (w, k). OnTable w (DeleteStrict k)
 make W.Delete = λ (w, m). OnTable w (Delete m)
 
@@ -138,10 +117,10 @@ makes W.Other x o = (tt, refl)
 makes W.Barrier x o = (o, refl)
 makes W.Message x o = (o, refl)
 makes W.Packet x o = (o, refl)
-makes W.Add x o = (o, refl)
-makes W.AddChecked x o = (o, refl)
-makes W.ModifyStrict x o = (o, refl)
-makes W.Modify x o = (o, refl)
+makes (W.Write Write.Add) x o = (o, refl)
+makes (W.Write Write.AddChecked) x o = (o, refl)
+makes (W.Write Write.ModifyStrict) x o = (o, refl)
+makes (W.Write Write.Modify) x o = (o, refl)
 makes W.DeleteStrict x o = (o, refl)
 makes W.Delete x o = (o, refl)
 
@@ -151,10 +130,10 @@ prints W.Other x = refl
 prints W.Barrier x = refl
 prints W.Message x = refl
 prints W.Packet x = refl
-prints W.Add x = refl
-prints W.AddChecked x = refl
-prints W.ModifyStrict x = refl
-prints W.Modify x = refl
+prints (W.Write Write.Add) x = refl
+prints (W.Write Write.AddChecked) x = refl
+prints (W.Write Write.ModifyStrict) x = refl
+prints (W.Write Write.Modify) x = refl
 prints W.DeleteStrict x = refl
 prints W.Delete x = refl
 
@@ -162,16 +141,12 @@ prints W.Delete x = refl
 behind-switch : {A : Type 0} (f : ℕ → A → Operation) (read : Reader A) (s : List ℕ) (at : ℕ)
     → andThen readSwitch (λ w. mapped (f w) read) s at ≡ mapped (λ (w, a). f w a) (both readSwitch read) s at
 unfolding andThen mapped both
-behind-switch {A} f read s at = go (readSwitch s at)
+behind-switch f read s at = go (readSwitch s at)
   where
     go : (r : Option (ℕ × ℕ)) → onRead r (λ w n. onRead (read s n) (λ a m. some (f w a, m)))
         ≡ onRead (onRead r (λ w n. onRead (read s n) (λ a m. some ((w, a), m)))) (λ (w, a) m. some (f w a, m))
     go none = refl
-    go (some r) = on (read s (r .1))
-      where
-        on : (q : Option (A × ℕ)) → onRead q (λ a m. some (f (r .0) a, m)) ≡ onRead (onRead q (λ a m. some ((r .0, a), m))) (λ (w, a) m. some (f w a, m))
-        on none = refl
-        on (some q) = refl
+    go (some r) = twice (λ (w, a). f w a) (λ a. (r .0, a)) (f (r .0)) (λ a. refl) (read s (r .1))
 
 reads-fields : (w : Word) (s : List ℕ) (at : ℕ) → readOperation w s at ≡ mapped (make w) (readFields w) s at
 unfolding readOperation readOn andThen mapped
@@ -179,10 +154,7 @@ reads-fields W.Other s at = refl
 reads-fields W.Barrier s at = refl
 reads-fields W.Message s at = refl
 reads-fields W.Packet s at = behind-switch (λ w p. OnTable w (Lookup p)) readPacket s at
-reads-fields W.Add s at = behind-switch (λ w e. OnTable w (Add e)) readEntry s at
-reads-fields W.AddChecked s at = behind-switch (λ w e. OnTable w (AddChecked e)) readEntry s at
-reads-fields W.ModifyStrict s at = behind-switch (λ w e. OnTable w (ModifyStrict e)) readEntry s at
-reads-fields W.Modify s at = behind-switch (λ w e. OnTable w (Modify e)) readEntry s at
+reads-fields (W.Write a) s at = behind-switch (λ w e. OnTable w (writeOf a e)) readEntry s at
 reads-fields W.DeleteStrict s at = behind-switch (λ w k. OnTable w (DeleteStrict k)) readKey s at
 reads-fields W.Delete s at = behind-switch (λ w m. OnTable w (Delete m)) readMatch s at
 

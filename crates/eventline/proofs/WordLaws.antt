@@ -12,13 +12,18 @@ use Rattle.digits.proofs.Readers.{nothing, same-value, same-place, on-cond}
 use Rattle.digits.proofs.Keys.{starts-key}
 use Rattle.eventline.specs.declared.words.Word.{Word}
 use Rattle.eventline.specs.declared.words.Word.the-variants as W
+use Rattle.eventline.specs.declared.words.Write.{Write}
 use Rattle.eventline.specs.Words.{wordText, readOneOf, readWord}
 
--- a word before another reader, whose answer is known
-pub next-word : (word : List ℕ) (w : Word) (other : Reader Word) (s : List ℕ) (at : ℕ) {x y : Option (Word × ℕ)} → y ≡ other s at
-    → x ≡ wordOr word w (λ t n. y) s at → x ≡ wordOr word w other s at
-unfolding wordOr
-next-word word w other s at e p = p ∙ rw e
+-- no word, and a word before others, whose answer is known
+pub no-words : (s : List ℕ) (at : ℕ) → none ≡ readOneOf [] s at
+unfolding readOneOf
+no-words s at = refl
+
+pub word-before : (w : Word) (ws : List Word) (s : List ℕ) (at : ℕ) {x y : Option (Word × ℕ)} → y ≡ readOneOf ws s at
+    → x ≡ wordOr (wordText w) w (λ t n. y) s at → x ≡ readOneOf (w ∷ ws) s at
+unfolding readOneOf wordOr
+word-before w ws s at e p = p ∙ rw e
 
 -- each word's text reads as the word
 word-reads : (w : Word) (s : List ℕ) (at : ℕ) (rest : List ℕ) → drop at s ≡ wordText w ++ rest → readWord s at ≡ some (w, at + length (wordText w))
@@ -27,10 +32,10 @@ word-reads W.Other s at rest h = rw h refl
 word-reads W.Barrier s at rest h = rw h refl
 word-reads W.Message s at rest h = rw h refl
 word-reads W.Packet s at rest h = rw h refl
-word-reads W.Add s at rest h = rw h refl
-word-reads W.AddChecked s at rest h = rw h refl
-word-reads W.ModifyStrict s at rest h = rw h refl
-word-reads W.Modify s at rest h = rw h refl
+word-reads (W.Write Write.Add) s at rest h = rw h refl
+word-reads (W.Write Write.AddChecked) s at rest h = rw h refl
+word-reads (W.Write Write.ModifyStrict) s at rest h = rw h refl
+word-reads (W.Write Write.Modify) s at rest h = rw h refl
 word-reads W.DeleteStrict s at rest h = rw h refl
 word-reads W.Delete s at rest h = rw h refl
 

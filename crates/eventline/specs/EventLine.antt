@@ -45,10 +45,10 @@ swKey = 32 ∷ 115 ∷ 119 ∷ 61 ∷ []
 -- the word of an operation
 abbrev tableWord : TableOperation → Word
 tableWord (Lookup p) = W.Packet
-tableWord (Add e) = W.Add
-tableWord (AddChecked e) = W.AddChecked
-tableWord (ModifyStrict e) = W.ModifyStrict
-tableWord (Modify e) = W.Modify
+tableWord (Add e) = W.Write Write.Add
+tableWord (AddChecked e) = W.Write Write.AddChecked
+tableWord (ModifyStrict e) = W.Write Write.ModifyStrict
+tableWord (Modify e) = W.Write Write.Modify
 tableWord (DeleteStrict k) = W.DeleteStrict
 tableWord (Delete m) = W.Delete
 
@@ -110,10 +110,7 @@ readOn W.Other w s at = some (Other, at)
 readOn W.Barrier w s at = some (Barrier w, at)
 readOn W.Message w s at = some (Message w, at)
 readOn W.Packet w s at = mapped (λ p. OnTable w (Lookup p)) readPacket s at
-readOn W.Add w s at = mapped (λ e. OnTable w (Add e)) readEntry s at
-readOn W.AddChecked w s at = mapped (λ e. OnTable w (AddChecked e)) readEntry s at
-readOn W.ModifyStrict w s at = mapped (λ e. OnTable w (ModifyStrict e)) readEntry s at
-readOn W.Modify w s at = mapped (λ e. OnTable w (Modify e)) readEntry s at
+readOn (W.Write a) w s at = mapped (λ e. OnTable w (writeOf a e)) readEntry s at
 readOn W.DeleteStrict w s at = mapped (λ k. OnTable w (DeleteStrict k)) readKey s at
 readOn W.Delete w s at = mapped (λ m. OnTable w (Delete m)) readMatch s at
 
@@ -123,10 +120,7 @@ readOperation W.Other s at = some (Other, at)
 readOperation W.Barrier s at = andThen readSwitch (readOn W.Barrier) s at
 readOperation W.Message s at = andThen readSwitch (readOn W.Message) s at
 readOperation W.Packet s at = andThen readSwitch (readOn W.Packet) s at
-readOperation W.Add s at = andThen readSwitch (readOn W.Add) s at
-readOperation W.AddChecked s at = andThen readSwitch (readOn W.AddChecked) s at
-readOperation W.ModifyStrict s at = andThen readSwitch (readOn W.ModifyStrict) s at
-readOperation W.Modify s at = andThen readSwitch (readOn W.Modify) s at
+readOperation (W.Write a) s at = andThen readSwitch (readOn (W.Write a)) s at
 readOperation W.DeleteStrict s at = andThen readSwitch (readOn W.DeleteStrict) s at
 readOperation W.Delete s at = andThen readSwitch (readOn W.Delete) s at
 

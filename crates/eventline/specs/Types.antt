@@ -13,6 +13,6 @@ pub use Rattle.events.specs.declared.tokens.Tokens.{Tokens}
 pub use Rattle.events.specs.declared.event.Event.{Event}
 pub use Rattle.eventline.specs.declared.words.Word.{Word}
 pub use Rattle.eventline.specs.declared.words.WordRead.{WordRead}
-pub use Rattle.eventline.specs.declared.operation.Write.{Write}
+pub use Rattle.eventline.specs.declared.words.Write.{Write}
 pub use Rattle.eventline.specs.declared.operation.OperationRead.{OperationRead}
 pub use Rattle.eventline.specs.declared.line.EventRead.{EventRead}

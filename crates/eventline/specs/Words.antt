@@ -5,6 +5,7 @@ use Prim.Native.Nat.{ℕ}
 use Rattle.digits.specs.Reading.{Reader, wordOr}
 use Rattle.eventline.specs.declared.words.Word.{Word}
 use Rattle.eventline.specs.declared.words.Word.the-variants as W
+use Rattle.eventline.specs.declared.words.Write.{Write}
 use Rattle.eventline.specs.declared.words.WordRead.{WordRead}
 
 -- the word's text, with the space that ends it
@@ -13,10 +14,10 @@ wordText W.Other = 111 ∷ 116 ∷ 104 ∷ 32 ∷ []
 wordText W.Barrier = 98 ∷ 97 ∷ 114 ∷ 32 ∷ []
 wordText W.Message = 109 ∷ 115 ∷ 103 ∷ 32 ∷ []
 wordText W.Packet = 112 ∷ 107 ∷ 116 ∷ 32 ∷ []
-wordText W.Add = 97 ∷ 100 ∷ 100 ∷ 32 ∷ []
-wordText W.AddChecked = 97 ∷ 100 ∷ 100 ∷ 99 ∷ 32 ∷ []
-wordText W.ModifyStrict = 109 ∷ 111 ∷ 100 ∷ 115 ∷ 32 ∷ []
-wordText W.Modify = 109 ∷ 111 ∷ 100 ∷ 110 ∷ 32 ∷ []
+wordText (W.Write Write.Add) = 97 ∷ 100 ∷ 100 ∷ 32 ∷ []
+wordText (W.Write Write.AddChecked) = 97 ∷ 100 ∷ 100 ∷ 99 ∷ 32 ∷ []
+wordText (W.Write Write.ModifyStrict) = 109 ∷ 111 ∷ 100 ∷ 115 ∷ 32 ∷ []
+wordText (W.Write Write.Modify) = 109 ∷ 111 ∷ 100 ∷ 110 ∷ 32 ∷ []
 wordText W.DeleteStrict = 100 ∷ 101 ∷ 108 ∷ 115 ∷ 32 ∷ []
 wordText W.Delete = 100 ∷ 101 ∷ 108 ∷ 110 ∷ 32 ∷ []
 
@@ -25,11 +26,12 @@ unfoldable pub readOneOf : List Word → Reader Word
 readOneOf [] = λ s at. none
 readOneOf (w ∷ ws) = wordOr (wordText w) w (readOneOf ws)
 
-abbrev allWords : List Word
-allWords = W.Other ∷ W.Barrier ∷ W.Message ∷ W.Packet ∷ W.Add ∷ W.AddChecked ∷ W.ModifyStrict ∷ W.Modify ∷ W.DeleteStrict ∷ W.Delete ∷ []
+-- the words of the writes
+abbrev pub writeWords : List Word
+writeWords = W.Write Write.Add ∷ W.Write Write.AddChecked ∷ W.Write Write.ModifyStrict ∷ W.Write Write.Modify ∷ W.DeleteStrict ∷ W.Delete ∷ []
 
 unfoldable pub readWord : Reader Word
-readWord = readOneOf allWords
+readWord = readOneOf (W.Other ∷ W.Barrier ∷ W.Message ∷ W.Packet ∷ writeWords)
 
 -- what the enum says
 abbrev pub asWord : WordRead → Option (Word × ℕ)

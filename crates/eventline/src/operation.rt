@@ -1,5 +1,6 @@
 // The rest of a line behind `in` and `out`, by the word of `do`: the switch and the operation's own fields.
 use crate::words::Word;
+use crate::words::Write;
 use digits::Number;
 use digits::number_at;
 use fields::EntryRead;
@@ -26,14 +27,6 @@ const LAST_SWITCH: u16 = 15;
 pub enum OperationRead {
     Read { value: Operation, next: usize },
     Bad,
-}
-
-// The writes that carry an entry: `add`, `addc`, `mods`, `modn`.
-enum Write {
-    Add,
-    AddChecked,
-    ModifyStrict,
-    Modify,
 }
 
 fn write_of(write: Write, entry: Entry) -> TableOperation
@@ -118,10 +111,7 @@ fn fields_at(s: &[u8], at: usize, word: Word, w: u8) -> OperationRead
             next: at,
         },
         Word::Packet => lookup_at(s, at, w),
-        Word::Add => write_at(s, at, w, Write::Add),
-        Word::AddChecked => write_at(s, at, w, Write::AddChecked),
-        Word::ModifyStrict => write_at(s, at, w, Write::ModifyStrict),
-        Word::Modify => write_at(s, at, w, Write::Modify),
+        Word::Write(write) => write_at(s, at, w, write),
         Word::DeleteStrict => delete_strict_at(s, at, w),
         Word::Delete => delete_at(s, at, w),
     }

@@ -2,18 +2,23 @@
 use digits::starts_with;
 ghost use mathlib.Core.Path.{_≡_};
 ghost use Rattle.digits.specs.Reading.{keyed, wordOr};
-ghost use Rattle.eventline.specs.Words.{readWord, asWord};
+ghost use Rattle.eventline.specs.Words.{readOneOf, writeWords, readWord, asWord};
 ghost use Rattle.eventline.specs.EventLine.{doKey};
+
+// The writes that carry an entry: `add`, `addc`, `mods`, `modn`.
+pub enum Write {
+    Add,
+    AddChecked,
+    ModifyStrict,
+    Modify,
+}
 
 pub enum Word {
     Other,
     Barrier,
     Message,
     Packet,
-    Add,
-    AddChecked,
-    ModifyStrict,
-    Modify,
+    Write(Write),
     DeleteStrict,
     Delete,
 }
@@ -37,16 +42,23 @@ fn word_or(s: &[u8], at: usize, text: &[u8], value: Word, other: WordRead) -> Wo
     other
 }
 
+// Any of the six writes.
+fn write_word(s: &[u8], at: usize) -> WordRead
+    ensures { λ r. ⌜ asWord r ≡ readOneOf writeWords (now (s .entry)) at ⌝ }
+{
+    let r = word_or(s, at, b"deln ", Word::Delete, WordRead::Bad);
+    let r = word_or(s, at, b"dels ", Word::DeleteStrict, r);
+    let r = word_or(s, at, b"modn ", Word::Write(Write::Modify), r);
+    let r = word_or(s, at, b"mods ", Word::Write(Write::ModifyStrict), r);
+    let r = word_or(s, at, b"addc ", Word::Write(Write::AddChecked), r);
+    word_or(s, at, b"add ", Word::Write(Write::Add), r)
+}
+
 // Any of the ten.
 pub fn read_word(s: &[u8], at: usize) -> WordRead
     ensures { λ r. ⌜ asWord r ≡ readWord (now (s .entry)) at ⌝ }
 {
-    let r = word_or(s, at, b"deln ", Word::Delete, WordRead::Bad);
-    let r = word_or(s, at, b"dels ", Word::DeleteStrict, r);
-    let r = word_or(s, at, b"modn ", Word::Modify, r);
-    let r = word_or(s, at, b"mods ", Word::ModifyStrict, r);
-    let r = word_or(s, at, b"addc ", Word::AddChecked, r);
-    let r = word_or(s, at, b"add ", Word::Add, r);
+    let r = write_word(s, at);
     let r = word_or(s, at, b"pkt ", Word::Packet, r);
     let r = word_or(s, at, b"msg ", Word::Message, r);
     let r = word_or(s, at, b"bar ", Word::Barrier, r);

@@ -1,5 +1,4 @@
 pub mod FieldFormats
 pub mod MatchFormats
 pub mod EntryFormats
-pub mod Lengths
 pub mod Ranges

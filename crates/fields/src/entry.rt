@@ -1,20 +1,15 @@
-// An action, a key and an entry, read from a place of a text and put at a place of a buffer.
+// An action, a key and an entry, read from a place of a text.
 use crate::matching::MatchRead;
 use crate::matching::match_at;
-use crate::matching::put_match;
 use digits::Number;
 use digits::number_at;
-use digits::put_bytes;
-use digits::put_number;
 use digits::starts_with;
 use flow::Action;
 use flow::Entry;
 use flow::Key;
 ghost use mathlib.Core.Path.{_≡_};
-ghost use Prim.Native.Nat.{_<_, _^_};
 ghost use Rattle.digits.specs.Reading.{keyed};
-ghost use Rattle.digits.specs.Print.{Put};
-ghost use Rattle.fields.specs.Print.{actKey, printAction, printKey, printEntry};
+ghost use Rattle.fields.specs.Print.{actKey};
 ghost use Rattle.fields.specs.Read.{readAction, readKey, readEntry, asAction, asKey, asEntry};
 
 // An action that was read and the place after it, or no action.
@@ -103,42 +98,4 @@ pub fn entry_at(s: &[u8], at: usize) -> EntryRead
     };
     let value = Entry { key, action };
     EntryRead::Read { value, next }
-}
-
-// `drop`, `ctl` or `pN`.
-pub fn put_action(out: &mut [u8], at: usize, a: Action) -> usize
-    requires { ⌜ at < 2 ^ 31 ⌝ }
-    ensures { λ r. ⌜ Put (printAction a) at (now (out .entry)) r (now (out .exit)) ⌝ }
-{
-    match a {
-        Action::Drop => put_bytes(out, at, b"drop"),
-        Action::Controller => put_bytes(out, at, b"ctl"),
-        Action::Port(v) => {
-            let n = put_bytes(out, at, b"p");
-            put_number(out, n, v as u32)
-        }
-    }
-}
-
-// Priority, then match.
-pub fn put_key(out: &mut [u8], at: usize, k: Key) -> usize
-    requires { ⌜ at < 2 ^ 29 ⌝ }
-    ensures { λ r. ⌜ Put (printKey k) at (now (out .entry)) r (now (out .exit)) ⌝ }
-{
-    let m = k.pattern;
-    let a = put_bytes(out, at, b" prio=");
-    let b = put_number(out, a, k.priority as u32);
-    put_match(out, b, m)
-}
-
-// Key, then action.
-pub fn put_entry(out: &mut [u8], at: usize, e: Entry) -> usize
-    requires { ⌜ at < 2 ^ 28 ⌝ }
-    ensures { λ r. ⌜ Put (printEntry e) at (now (out .entry)) r (now (out .exit)) ⌝ }
-{
-    let key = e.key;
-    let action = e.action;
-    let a = put_key(out, at, key);
-    let b = put_bytes(out, a, b" act=");
-    put_action(out, b, action)
 }

@@ -1,10 +1,8 @@
-// The six fields of a match and of a packet, read from a place of a text; a match put at a place of a buffer.
+// The six fields of a match and of a packet, read from a place of a text.
 use crate::field::ExactRead;
 use crate::field::PrefixRead;
 use crate::field::exact_at;
 use crate::field::prefix_at;
-use crate::field::put_exact;
-use crate::field::put_prefix;
 use digits::Hex;
 use digits::Number;
 use digits::hex_at;
@@ -14,11 +12,8 @@ use flow::Match;
 use flow::Packet;
 use flow::Prefix;
 ghost use mathlib.Core.Path.{_≡_};
-ghost use Prim.Native.Nat.{_<_, _^_};
 ghost use Rattle.digits.specs.Number.{readNumber};
 ghost use Rattle.digits.specs.Reading.{mapped};
-ghost use Rattle.digits.specs.Print.{Put};
-ghost use Rattle.fields.specs.Print.{printMatch};
 ghost use Rattle.fields.specs.Read.{readExact, readLast, matchOf, packetOf, readMatch, readPacket, asMatch, asPacket};
 
 // A match that was read and the place after it, or no match.
@@ -111,23 +106,4 @@ fn packet_behind(s: &[u8], at: usize, port: u16, src: u32, dst: u32) -> PacketRe
         dport,
     };
     PacketRead::Read { value, next }
-}
-
-// The six fields of a match.
-pub fn put_match(out: &mut [u8], at: usize, m: Match) -> usize
-    requires { ⌜ at < 2 ^ 30 ⌝ }
-    ensures { λ r. ⌜ Put (printMatch m) at (now (out .entry)) r (now (out .exit)) ⌝ }
-{
-    let port = m.port;
-    let src = m.src;
-    let dst = m.dst;
-    let proto = m.proto;
-    let sport = m.sport;
-    let dport = m.dport;
-    let a = put_exact(out, at, b" port=", port);
-    let b = put_prefix(out, a, b" src=", src);
-    let c = put_prefix(out, b, b" dst=", dst);
-    let d = put_exact(out, c, b" proto=", proto);
-    let e = put_exact(out, d, b" sport=", sport);
-    put_exact(out, e, b" dport=", dport)
 }

@@ -14,7 +14,7 @@ use Rattle.digits.proofs.Numbers.{number-format}
 use Rattle.digits.proofs.Format.{Format, keyed-format, along, both-format, whole}
 use Rattle.digits.proofs.Print.{print-length}
 use Rattle.fields.proofs.EntryFormats.{entry-follows, entry-format}
-use Rattle.fields.proofs.Lengths.{entry-length}
+use Rattle.putfields.proofs.Lengths.{entry-length}
 use Rattle.fields.proofs.Ranges.{entry-range}
 use Rattle.fields.specs.Written.{clearEntry}
 use Rattle.rules.specs.Types.{Row}

@@ -1,7 +1,7 @@
 // Rows as text, a line for each.
 use digits::put_bytes;
 use digits::put_number;
-use fields::put_entry;
+use putfields::put_entry;
 use rows::Row;
 use rows::Rows;
 ghost use mathlib.Core.Path.{_≡_};

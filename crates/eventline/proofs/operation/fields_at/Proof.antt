@@ -9,14 +9,11 @@ pub fields-at-spec : {M : Type 1} → statement M
 unfolding readOn
 fields-at-spec =
     tie.close
-    (tie.spec (λ c. search needs) (λ c. search needs) (λ c. search needs) (λ c. search needs) (λ c κs. search needs) (λ c. search needs) (λ c κs. search needs) (λ c. search needs) (λ c κs. search needs) (λ c. search needs) (λ c κs. search needs) (λ c. search needs) (λ c κs. search needs) (λ c. search needs) (λ c κs. search needs) (λ c. search needs) (λ c κs. search needs)
+    (tie.spec (λ c. search needs) (λ c. search needs) (λ c. search needs) (λ c. search needs) (λ c κs. search needs) (λ c. search needs) (λ c κs. search needs) (λ c. search needs) (λ c κs. search needs) (λ c. search needs) (λ c κs. search needs)
     (λ c. by-word _ _ _ (c .enum-told .given .1) refl)
     (λ c. by-word _ _ _ (c .enum-told2 .given .1) refl)
     (λ c. by-word _ _ _ (c .enum-told3 .given .1) refl)
     (λ c. by-word _ _ _ (c .before .enum-told4 .given .1) (c .lookup-at .ensures))
-    (λ c. by-word _ _ _ (c .before .enum-told5 .given .1) (c .write-at .ensures))
-    (λ c. by-word _ _ _ (c .before .enum-told6 .given .1) (c .write-at2 .ensures))
-    (λ c. by-word _ _ _ (c .before .enum-told7 .given .1) (c .write-at3 .ensures))
-    (λ c. by-word _ _ _ (c .before .enum-told8 .given .1) (c .write-at4 .ensures))
-    (λ c. by-word _ _ _ (c .before .enum-told9 .given .1) (c .delete-strict-at .ensures))
-    (λ c. by-word _ _ _ (c .before .enum-told10 .given .1) (c .delete-at .ensures)))
+    (λ c. by-word _ _ _ (c .before .before .word .given .1) (c .write-at .ensures))
+    (λ c. by-word _ _ _ (c .before .enum-told5 .given .1) (c .delete-strict-at .ensures))
+    (λ c. by-word _ _ _ (c .before .enum-told6 .given .1) (c .delete-at .ensures)))

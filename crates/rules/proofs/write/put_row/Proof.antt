@@ -1,7 +1,7 @@
 use native.Mathlib.Omega.{arith}
 use borrow.Author.Needs.{needs}
 use Rattle.digits.proofs.Writing.{put-then, print-length}
-use Rattle.fields.proofs.Lengths.{entry-length}
+use Rattle.putfields.proofs.Lengths.{entry-length}
 use Rattle.rules.specs.TableText.{printRow}
 use Rattle.rules.proofs.write.put_row.Statement.{statement}
 use Rattle.rules.proofs.write.put_row.Tie as tie

@@ -1,8 +1,8 @@
 use borrow.Author.Needs.{needs}
 use Rattle.digits.proofs.Writing.{put-then}
 use Rattle.fields.specs.Print.{printAction}
-use Rattle.fields.proofs.entry.put_action.Statement.{statement}
-use Rattle.fields.proofs.entry.put_action.Tie as tie
+use Rattle.putfields.proofs.put_action.Statement.{statement}
+use Rattle.putfields.proofs.put_action.Tie as tie
 
 returns : tie.Need-returns
 unfolding printAction

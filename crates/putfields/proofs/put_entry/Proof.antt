@@ -1,10 +1,10 @@
 use native.Mathlib.Omega.{arith}
 use borrow.Author.Needs.{needs}
 use Rattle.digits.proofs.Writing.{put-then}
 use Rattle.fields.specs.Print.{printEntry}
-use Rattle.fields.proofs.Lengths.{key-length}
-use Rattle.fields.proofs.entry.put_entry.Statement.{statement}
-use Rattle.fields.proofs.entry.put_entry.Tie as tie
+use Rattle.putfields.proofs.Lengths.{key-length}
+use Rattle.putfields.proofs.put_entry.Statement.{statement}
+use Rattle.putfields.proofs.put_entry.Tie as tie
 
 put-bytes-requires : tie.Need-put-bytes-requires
 put-bytes-requires c κs =

@@ -3,15 +3,15 @@ use Prim.Native.Nat.{_≤_}
 use native.Mathlib.Omega.{arith}
 use lib.ListN.{length, length-append}
 use Rattle.digits.proofs.Writing.{print-length, hex-length}
 use Rattle.fields.specs.Types.{Exact, Any, Is, Prefix, Match, Action, Drop, Controller, Port, Key, Entry}
 use Rattle.fields.specs.Print.{printExact, printPrefix, printLast, printSix, printMatch, printAction, printKey, printEntry}
 
-pub exact-length : (x : Exact) → length (printExact x) ≤ 10
+exact-length : (x : Exact) → length (printExact x) ≤ 10
 unfolding printExact
 exact-length Any = omega arith
 exact-length (Is v) = print-length v
 
-pub prefix-length : (p : Prefix) → length (printPrefix p) ≤ 19
+prefix-length : (p : Prefix) → length (printPrefix p) ≤ 19
 unfolding printPrefix
 prefix-length p = rw (length-append, hex-length) (omega (arith, print-length (p .length)))
 

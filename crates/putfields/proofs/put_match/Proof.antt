@@ -1,8 +1,8 @@
 use borrow.Author.Needs.{needs}
 use Rattle.digits.proofs.Writing.{put-then}
 use Rattle.fields.specs.Print.{printLast, printSix, printMatch}
-use Rattle.fields.proofs.matching.put_match.Statement.{statement}
-use Rattle.fields.proofs.matching.put_match.Tie as tie
+use Rattle.putfields.proofs.put_match.Statement.{statement}
+use Rattle.putfields.proofs.put_match.Tie as tie
 
 returns : tie.Need-returns
 unfolding printMatch printSix printLast

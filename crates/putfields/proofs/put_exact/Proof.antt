@@ -1,9 +1,9 @@
 use native.Mathlib.Omega.{arith}
 use borrow.Author.Needs.{needs}
 use Rattle.digits.proofs.Writing.{put-then, print-length}
 use Rattle.fields.specs.Print.{printExact}
-use Rattle.fields.proofs.field.put_exact.Statement.{statement}
-use Rattle.fields.proofs.field.put_exact.Tie as tie
+use Rattle.putfields.proofs.put_exact.Statement.{statement}
+use Rattle.putfields.proofs.put_exact.Tie as tie
 
 pub put-exact-spec : {M : Type 1} → statement M
 unfolding printExact

@@ -1,9 +1,9 @@
 use native.Mathlib.Omega.{arith}
 use borrow.Author.Needs.{needs}
 use Rattle.digits.proofs.Writing.{put-then, print-length, hex-length}
 use Rattle.fields.specs.Print.{printPrefix}
-use Rattle.fields.proofs.field.put_prefix.Statement.{statement}
-use Rattle.fields.proofs.field.put_prefix.Tie as tie
+use Rattle.putfields.proofs.put_prefix.Statement.{statement}
+use Rattle.putfields.proofs.put_prefix.Tie as tie
 
 put-bytes-requires-2 : tie.Need-put-bytes-requires-2
 put-bytes-requires-2 c κs =

@@ -1,9 +1,9 @@
 use native.Mathlib.Omega.{arith}
 use borrow.Author.Needs.{needs}
 use Rattle.digits.proofs.Writing.{put-then, print-length}
 use Rattle.fields.specs.Print.{printKey}
-use Rattle.fields.proofs.entry.put_key.Statement.{statement}
-use Rattle.fields.proofs.entry.put_key.Tie as tie
+use Rattle.putfields.proofs.put_key.Statement.{statement}
+use Rattle.putfields.proofs.put_key.Tie as tie
 
 put-match-requires : tie.Need-put-match-requires
 put-match-requires c κs =

@@ -122,6 +122,17 @@ fn packet(p: Packet) {
     end_line();
 }
 
+fn sent(port: u16, src: u32, dst: u32, proto: u16, sport: u16, dport: u16) {
+    packet(Packet {
+        port,
+        src,
+        dst,
+        proto,
+        sport,
+        dport,
+    });
+}
+
 fn address(name: &[u8], value: u32, length: u8) {
     let p = Prefix { value, length };
     say(name);
@@ -163,38 +174,10 @@ fn main() {
     address(b"40000000/1", 0x40000000, 1);
     address(b"ffffffff/32", 0xffffffff, 32);
     rows();
-    packet(Packet {
-        port: 1,
-        src: 0x0a000003,
-        dst: 0x0a010003,
-        proto: 6,
-        sport: 65535,
-        dport: 80,
-    });
-    packet(Packet {
-        port: 0,
-        src: 0x00000000,
-        dst: 0x00000000,
-        proto: 0,
-        sport: 0,
-        dport: 0,
-    });
-    packet(Packet {
-        port: 65535,
-        src: 0xffffffff,
-        dst: 0xffffffff,
-        proto: 255,
-        sport: 65535,
-        dport: 65535,
-    });
-    packet(Packet {
-        port: 2,
-        src: 0x0a000002,
-        dst: 0x0a01ffff,
-        proto: 17,
-        sport: 1,
-        dport: 81,
-    });
+    sent(1, 0x0a000003, 0x0a010003, 6, 65535, 80);
+    sent(0, 0x00000000, 0x00000000, 0, 0, 0);
+    sent(65535, 0xffffffff, 0xffffffff, 255, 65535, 65535);
+    sent(2, 0x0a000002, 0x0a01ffff, 17, 1, 81);
     keys(10, 0, 5, 0);
     keys(5, 0, 10, 0);
     keys(5, 0, 5, 0);

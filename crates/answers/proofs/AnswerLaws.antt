@@ -11,7 +11,6 @@ use lib.ListN.{length, set, replicate, take, drop, length-append, length-drop, t
 use lib.Seq.{sets, take-all, length-take-le}
 use Rattle.digits.specs.Print.{printNumber, Put}
 use Rattle.digits.proofs.Writing.{print-length, put-then}
-<<<<<<< HEAD:crates/answers/proofs/AnswerLaws.antt
 use Rattle.putfields.proofs.Lengths.{action-length}
 use Rattle.answers.specs.Types.{Answer, Silent, Miss, Hit, Done}
 use Rattle.answers.specs.Answers.{noAnswer, keptAt, evKey, lineFeed, printItem, isSilent, printAnswer, answersText}
@@ -21,11 +20,6 @@ pub none-kept : (n i : ℕ) → keptAt (replicate n noAnswer) i ≡ Silent
 none-kept zero i = refl
 none-kept (suc n) zero = refl
 none-kept (suc n) (suc i) = none-kept n i
-=======
-use Rattle.putfields.proofs.Lengths.{action-length}
-use Rattle.running.specs.Types.{Answer, Silent, Miss, Hit, Done}
-use Rattle.running.specs.Answers.{evKey, lineFeed, printItem, isSilent, printAnswer, answersText}
->>>>>>> fields:crates/running/proofs/AnswerLaws.antt
 
 -- ---- how long
 pub item-length : (a : Answer) → length (printItem a) ≤ 38

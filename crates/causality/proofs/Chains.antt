@@ -1,40 +1,21 @@
 -- Happens-before is every chain of one or more steps (`before-iff`); a chain goes to a later line (`chain-later`); what happens
 -- before an event is the union of its direct predecessors and of what happens before them (`row-union`). Assumes nothing.
 use Prim.Native.Nat.{ℕ, zero, suc, _<_, _≤_}
-use native.Mathlib.Nat.{eq-or-lt-of-le, le-of-suc-le-suc, le-refl}
+use native.Mathlib.Nat.{le-refl}
 use native.Mathlib.Omega.{arith}
-use mathlib.Core.Path.{_≡_, refl, ap, subst, _∙_}
-use mathlib.Core.Logic.{_↔_, ⊎-elim}
+use mathlib.Core.Path.{_≡_, refl, ap, _∙_}
+use mathlib.Core.Logic.{_↔_}
 use mathlib.Core.Bool.{Bool, true, false, _&&_, _||_, false≢true, or-true}
 use mathlib.Core.List.{List}
 use lib.Dec.{eqb, ltb}
 use lib.ListN.{length}
 use borrow.Author.Tests.{eq-eqb, eqb-true, ltb-true}
 use Rattle.flow.proofs.Booleans.{split, and-left, and-right, and-intro, or-cases}
-use Rattle.events.specs.Events.{eventAt}
+use Rattle.events.specs.Events.{anyBelow, eventAt}
 use Rattle.events.specs.Precedence.{precedes}
+use Rattle.events.proofs.Searches.{any-same, any-found, any-at}
 use Rattle.causality.specs.Types.{Event}
-use Rattle.causality.specs.Causality.{step, Chain, link, onward, anyBelow, reaches, before}
-
--- two tests that agree below n
-any-same : (p q : ℕ → Bool) (n : ℕ) → ((k : ℕ) → k < n → p k ≡ q k) → anyBelow p n ≡ anyBelow q n
-any-same p q zero h = refl
-any-same p q (suc n) h = simp (any-same p q n (λ k l. h k (omega arith)), h n (omega arith))
-
-any-found : (p : ℕ → Bool) (n : ℕ) → anyBelow p n ≡ true → (k : ℕ) × (k < n) × (p k ≡ true)
-any-found p zero h = absurd (false≢true h)
-any-found p (suc n) h =
-    or-cases (anyBelow p n) (p n) h
-    (λ e. let r = any-found p n e in (r .0, omega (arith, r .1), r .2))
-    (λ e. (n, le-refl (suc n), e))
-
-any-at : (p : ℕ → Bool) (n k : ℕ) → k < n → p k ≡ true → anyBelow p n ≡ true
-any-at p zero k l h = absurd (omega arith)
-any-at p (suc n) k l h =
-    ⊎-elim
-    (λ e. rw (subst (λ (m : ℕ). p m ≡ true) e h) (or-true (anyBelow p n)))
-    (λ m. rw (any-at p n k m h) refl)
-    (eq-or-lt-of-le (le-of-suc-le-suc l))
+use Rattle.causality.specs.Causality.{step, Chain, link, onward, reaches, before}
 
 module _ (d : ℕ → ℕ → Bool) where
   -- more steps than j are not needed to reach j

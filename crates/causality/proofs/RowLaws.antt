@@ -10,11 +10,11 @@ use lib.Dec.{eqb, ltb}
 use lib.ListN.{length, getD, set, replicate, length-replicate, getD-replicate, List·getD-eq-default}
 use lib.Seq.{getD-set-same, getD-set-other}
 use borrow.Author.Tests.{lt-ltb, le-ltb}
-use Rattle.events.specs.Events.{eventsOf, noEvent}
+use Rattle.events.specs.Events.{anyBelow, eventsOf, noEvent}
 use Rattle.events.specs.Precedence.{precedes}
 use Rattle.events.proofs.TraceLaws.{length-events, event-at}
 use Rattle.causality.specs.Types.{Event, Trace}
-use Rattle.causality.specs.Causality.{step, anyBelow, before}
+use Rattle.causality.specs.Causality.{step, before}
 use Rattle.causality.specs.Rows.{member, noMembers, bit, Filled, HappensBefore}
 use Rattle.causality.proofs.Chains.{through, before-end}
 use Rattle.causality.proofs.SetLaws.{member-none, member-nil}

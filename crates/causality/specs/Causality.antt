@@ -5,7 +5,7 @@ use mathlib.Core.List.{List}
 use Prim.Native.Nat.{ℕ, zero, suc}
 use lib.Dec.{eqb, ltb}
 use lib.ListN.{length}
-use Rattle.events.specs.Events.{eventAt}
+use Rattle.events.specs.Events.{anyBelow, eventAt}
 use Rattle.events.specs.Precedence.{precedes}
 use Rattle.causality.specs.Types.{Event}
 
@@ -17,11 +17,6 @@ step es i j = ltb i j && (ltb j (length es) && precedes (eventAt es i) (eventAt 
 pub data Chain (d : ℕ → ℕ → Bool) : ℕ → ℕ → Type 0 where
   link : {i j : ℕ} → d i j ≡ true → Chain d i j
   onward : {i k j : ℕ} → Chain d i k → d k j ≡ true → Chain d i j
-
--- some number below n passes the test
-abbrev pub anyBelow : (ℕ → Bool) → ℕ → Bool
-anyBelow p zero = false
-anyBelow p (suc n) = anyBelow p n || p n
 
 -- a chain of at most f steps, each to a larger number: by its last step, from k
 unfoldable pub reaches : (ℕ → ℕ → Bool) → ℕ → ℕ → ℕ → Bool

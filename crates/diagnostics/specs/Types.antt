@@ -2,3 +2,4 @@
 pub use Rattle.refusals.specs.declared.refusal.Refusal.{Refusal}
 pub use Rattle.refusals.specs.declared.refusal.Source.{Source}
 pub use Rattle.refusals.specs.declared.refusal.Source.the-variants.{Neither, Trace as InTrace, Tables as InTables}
+pub use Rattle.refusals.specs.declared.refusal.Returned.{Returned}

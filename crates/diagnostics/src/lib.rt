@@ -38,10 +38,9 @@ fn put_refusal(out: &mut [u8], refusal: Refusal) -> usize
     ensures { λ r. ⌜ Put (refusalLine refusal) 0 (now (out .entry)) r (now (out .exit)) ⌝ }
     ensures { λ r. ⌜ r ≤ 54 ⌝ }
 {
-    let number = refusal.number();
-    let place = refusal.place();
-    let p = shown(place);
-    let n = put_item(out, 0, b"refused=", number as u32);
+    let returned = refusal.returned();
+    let p = shown(returned.place);
+    let n = put_item(out, 0, b"refused=", returned.number as u32);
     let m = put_item(out, n, b" place=", p);
     put_byte(out, m, b'\n');
     m + 1
@@ -62,7 +61,8 @@ pub fn refused<'a>(out: &mut [u8], trace: &'a [u8], tables: &'a [u8], refusal: R
     ensures { λ r. ⌜ Put (refusedText (now (trace .entry)) (now (tables .entry)) refusal) 0 (now (out .entry)) r (now (out .exit)) ⌝ }
 {
     let n = put_refusal(out, refusal);
-    let source = refusal.source();
+    let returned = refusal.returned();
+    let source = returned.source;
     match source {
         Source::Neither => n,
         Source::Trace => put_line(out, n, refused_line(trace, tables, refusal)),

@@ -1,7 +1,7 @@
 -- Document 01, "Trace text": the events of a trace, their tokens, and the kinds of operations that barriers tell apart.
 use mathlib.Core.Bool.{Bool, true, false, _||_}
 use mathlib.Core.List.{List, [], _∷_}
-use Prim.Native.Nat.{ℕ}
+use Prim.Native.Nat.{ℕ, zero, suc}
 use lib.ListN.{take, getD}
 use Rattle.orders.specs.Orders.{has}
 use Rattle.events.specs.Types.{TableOperation, Lookup, Add, AddChecked, ModifyStrict, Modify, DeleteStrict, Delete, Operation, Other, Barrier, Message, OnTable, Tokens, Event, Trace}
@@ -14,6 +14,11 @@ tokensOf s = take (s .count) (s .t0 ∷ s .t1 ∷ s .t2 ∷ s .t3 ∷ [])
 abbrev pub anyOf : (ℕ → Bool) → List ℕ → Bool
 anyOf p [] = false
 anyOf p (t ∷ ts) = p t || anyOf p ts
+
+-- some number below n passes the test
+abbrev pub anyBelow : (ℕ → Bool) → ℕ → Bool
+anyBelow p zero = false
+anyBelow p (suc n) = anyBelow p n || p n
 
 -- some number stands in both
 unfoldable pub shares : List ℕ → List ℕ → Bool

@@ -1,7 +1,7 @@
 // The token numbers of an event's `in` or `out`.
 ghost use mathlib.Core.Path.{_≡_};
 ghost use Rattle.orders.specs.Orders.{has};
-ghost use Rattle.events.specs.Events.{tokensOf, shares};
+ghost use Rattle.events.specs.Events.{tokensOf, shares, noTokens};
 
 // None to four numbers: the first `count` of the four, all of them where it is more.
 pub struct Tokens {
@@ -13,6 +13,18 @@ pub struct Tokens {
 }
 
 impl Tokens {
+    pub fn none() -> Tokens
+        ensures { λ r. ⌜ r ≡ noTokens ⌝ }
+    {
+        Tokens {
+            t0: 0,
+            t1: 0,
+            t2: 0,
+            t3: 0,
+            count: 0,
+        }
+    }
+
     // t is one of them.
     pub fn has(self, t: u16) -> bool
         ensures { λ r. ⌜ r ≡ has t (tokensOf self) ⌝ }

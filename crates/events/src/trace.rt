@@ -15,13 +15,7 @@ impl Trace {
     pub fn empty() -> Trace
         ensures { λ r. ⌜ (eventsOf r ≡ []) × (r .len ≡ 0) ⌝ }
     {
-        let none = Tokens {
-            t0: 0,
-            t1: 0,
-            t2: 0,
-            t3: 0,
-            count: 0,
-        };
+        let none = Tokens::none();
         let idle = Event {
             ins: none,
             outs: none,

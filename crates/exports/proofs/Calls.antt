@@ -1,24 +1,11 @@
 -- The calls' answers, by the paths through the code.
 use Prim.Native.Nat.{ℕ}
 use mathlib.Core.List.{List, []}
-use mathlib.Core.Path.{_≡_, refl, sym, ap, _∙_}
-use lib.ListN.{length}
-use Rattle.refusals.specs.Refusals.{numberOf, placeOf, sourceOf, lineOf}
+use mathlib.Core.Path.{_≡_, refl}
 use Rattle.rules.specs.Normal.{asNormal}
-use Rattle.exports.specs.Types.{Refusal, Source, Counts, ListAnswer, Counted, ListRefused, NormalAnswer, NormalLength, NormalRefused, ReplayAnswer, Lengths, ReplayRefused, Refused}
-use Rattle.exports.specs.Refused.{startIn, startOf, nothingRefused, refusedAs}
+use Rattle.exports.specs.Types.{Refusal, Counts, ListAnswer, Counted, ListRefused, NormalAnswer, NormalLength, NormalRefused, ReplayAnswer, Lengths, ReplayRefused, Refused}
+use Rattle.refusals.specs.Refused.{nothingRefused, refusedAs}
 use Rattle.exports.specs.Calls.{listAs, normalAs, replayAs}
-
--- where the refused line starts, from the source and the place
-pub started : (trace tables : List ℕ) (r : Refusal) {source form : Source} {n x : ℕ} → source ≡ sourceOf r → n ≡ placeOf r → source ≡ form
-    → x ≡ startIn form trace tables n → x ≡ startOf trace tables r
-unfolding startOf
-started trace tables r {form = form} s p e h = h ∙ ap (startIn form trace tables) p ∙ ap (λ q. startIn q trace tables (placeOf r)) (sym e ∙ s)
-
-pub refused-numbers : (trace tables : List ℕ) (r : Refusal) {n p a : ℕ} {line : List ℕ} → n ≡ numberOf r → p ≡ placeOf r → a ≡ startOf trace tables r
-    → line ≡ lineOf trace tables r → record { number = n; place = p; start = a; length = length line } ≡ refusedAs trace tables r
-unfolding refusedAs
-refused-numbers trace tables r n p a l = rw (n, p, a, l) refl
 
 pub list-counted : (trace : List ℕ) {answer : ListAnswer} {c : Counts} {x : Refused} → answer ≡ Counted c → x ≡ nothingRefused
     → record { refused = x; pairs = c .pairs; ordered = c .ordered; commuting = c .commuting; listed = c .listed } ≡ listAs trace answer

@@ -3,7 +3,7 @@ use Prim.Native.Nat.{ℕ}
 use mathlib.Core.List.{List, []}
 use mathlib.Core.Logic.{_⊎_, inl, inr}
 use Rattle.exports.specs.Types.{Refusal, ListAnswer, Counted, ListRefused, Listed, Normalised, ReplayAnswer, Lengths, ReplayRefused, Replayed}
-use Rattle.exports.specs.Refused.{nothingRefused, refusedAs}
+use Rattle.refusals.specs.Refused.{nothingRefused, refusedAs}
 
 -- the list call on a trace: the counts, or the refusal and counts of 0
 unfoldable pub listAs : List ℕ → ListAnswer → Listed

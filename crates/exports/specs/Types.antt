@@ -1,7 +1,6 @@
 -- The types that this crate's definitions speak of, under one name each.
 pub use Rattle.refusals.specs.declared.refusal.Refusal.{Refusal}
-pub use Rattle.refusals.specs.declared.refusal.Source.{Source}
-pub use Rattle.refusals.specs.declared.refusal.Source.the-variants.{Neither, Trace as InTrace, Tables as InTables}
+pub use Rattle.refusals.specs.declared.refused.Refused.{Refused}
 pub use Rattle.pairs.specs.declared.counts.Counts.{Counts}
 pub use Rattle.races.specs.declared.answer.ListAnswer.{ListAnswer}
 pub use Rattle.races.specs.declared.answer.ListAnswer.the-variants.{Counts as Counted, Refused as ListRefused}
@@ -9,7 +8,6 @@ pub use Rattle.rules.specs.declared.normal.NormalAnswer.{NormalAnswer}
 pub use Rattle.rules.specs.declared.normal.NormalAnswer.the-variants.{Length as NormalLength, Refused as NormalRefused}
 pub use Rattle.writing.specs.declared.answer.ReplayAnswer.{ReplayAnswer}
 pub use Rattle.writing.specs.declared.answer.ReplayAnswer.the-variants.{Lengths, Refused as ReplayRefused}
-pub use Rattle.exports.specs.declared.refused.Refused.{Refused}
 pub use Rattle.exports.specs.declared.list.Listed.{Listed}
 pub use Rattle.exports.specs.declared.normal.Normalised.{Normalised}
 pub use Rattle.exports.specs.declared.replayed.Replayed.{Replayed}

@@ -1,6 +1,6 @@
 // The list call.
-use crate::refused::Refused;
 use races::ListAnswer;
+use refusals::Refused;
 ghost use mathlib.Core.Path.{_≡_};
 ghost use lib.ListN.{length};
 ghost use Rattle.races.specs.Races.{listAnswer, listBuffer};

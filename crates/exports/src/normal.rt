@@ -1,5 +1,5 @@
 // The normaliser's call.
-use crate::refused::Refused;
+use refusals::Refused;
 use rules::NormalAnswer;
 ghost use mathlib.Core.Path.{_≡_};
 ghost use Rattle.rules.specs.Normal.{normalised, asNormal};

@@ -1,5 +1,5 @@
 // The replay call.
-use crate::refused::Refused;
+use refusals::Refused;
 use writing::ReplayAnswer;
 ghost use mathlib.Core.Path.{_≡_};
 ghost use lib.ListN.{length};

@@ -1,16 +1,16 @@
 -- Laws of the loops over a text.
-use Prim.Native.Nat.{ℕ, suc, _+_, _-_, _≤_, _<_}
+use Prim.Native.Nat.{ℕ, zero, suc, _+_, _-_, _≤_, _<_}
 use mathlib.Core.Bool.{Bool, true, false, cond}
 use mathlib.Core.List.{List, [], _∷_}
-use mathlib.Core.Path.{_≡_, _∙_}
-use native.Mathlib.Nat.{add-assoc, add-zero}
+use mathlib.Core.Path.{_≡_, refl, ap, _∙_}
+use native.Mathlib.Nat.{add-zero}
 use native.Mathlib.Numerals.{add-one}
 use native.Mathlib.Omega.{arith}
 use borrow.Author.Tests.{eq-eqb, ne-eqb}
 use lib.Dec.{eqb}
-use lib.ListN.{length, getD, take, drop, drop-of-length-le, length-drop}
-use lib.Seq.{drop-cons, drop-drop, take-all}
-use Rattle.lines.specs.Lines.{lines, lineLength, newlines}
+use lib.ListN.{length, getD, take, drop, drop-of-length-le, length-append, length-drop}
+use lib.Seq.{drop-cons, drop-drop, take-nil, length-take-le}
+use Rattle.lines.specs.Lines.{lines, unlines, lineLength, firstLine, lineStart, newlines}
 use Rattle.lines.proofs.Lines.{lines-cons}
 
 -- the length of the first line, from the place i on
@@ -53,27 +53,54 @@ line-within (b ∷ s) = either (eqb b 10) (line-within s)
     either true h = omega arith
     either false h = omega arith
 
--- ---- the line of the number k, where i lines end before the place at
-pub at-none : (s : List ℕ) (at k : ℕ) → length s ≤ at → getD (lines (drop at s)) k [] ≡ []
-unfolding lines
-at-none s at k h = rw (drop-of-length-le s)
+-- ---- where the line of the number k starts
+start-first : (s : List ℕ) → lineStart s 0 ≡ 0
+unfolding lineStart unlines
+start-first s = refl
 
-module _ (s : List ℕ) (at n : ℕ) (h : at < length s) (e : n ≡ lineLength (take (length s - at) (drop at s))) where
-  rest : take (length s - at) (drop at s) ≡ drop at s
-  rest = take-all (length s - at) (drop at s) (simp length-drop (omega arith))
+start-empty : (k : ℕ) → lineStart [] k ≡ 0
+unfolding lineStart unlines lines
+start-empty k = rw take-nil
 
-  some : 0 < length (drop at s)
-  some = simp length-drop (omega arith)
+-- the lines after the first start so much later than in the text without it
+start-later : (s : List ℕ) (k : ℕ) → 0 < length s → lineStart s (suc k) ≡ lineLength s + 1 + lineStart (drop (lineLength s + 1) s) k
+unfolding lineStart unlines
+start-later s k h =
+    rw (lines-cons s h, length-append, length-take-le (lineLength s) s (line-within s)) (omega arith)
 
-  pub at-room : at + n ≤ length s
-  at-room = omega (arith, rw rest at e, line-within (drop at s), length-drop at s)
+-- from the place `at` on: nothing is left, the line is reached, or it stands behind the line of n bytes that is there
+pub start-none : (s : List ℕ) (at k : ℕ) → length s ≤ at → at + lineStart (drop at s) k ≡ at
+start-none s at k h = rw (drop-of-length-le s, start-empty k, add-zero)
 
-  pub at-next : (k i : ℕ) → i < k → getD (lines (drop at s)) (k - i) [] ≡ getD (lines (drop (at + n + 1) s)) (k - (i + 1)) []
-  at-next k i l =
+pub start-here : (s : List ℕ) (at k i : ℕ) → k ≤ i → at + lineStart (drop at s) (k - i) ≡ at
+start-here s at k i l =
+    let c : k - i ≡ 0 = omega arith in
+    rw (c, start-first (drop at s), add-zero)
+
+module _ (s : List ℕ) (at n : ℕ) (rest : List ℕ) (h : at < length s) (r : rest ≡ drop at s) (e : n ≡ lineLength rest) where
+  pub start-room : at + n ≤ length s
+  start-room = omega (arith, e, line-within rest, ap length r, length-drop at s)
+
+  pub start-next : (k i : ℕ) → i < k → at + lineStart (drop at s) (k - i) ≡ at + n + 1 + lineStart (drop (at + n + 1) s) (k - (i + 1))
+  start-next k i l =
       let c : k - i ≡ suc (k - (i + 1)) = omega arith in
-      rw (c, lines-cons (drop at s) some, drop-drop, e, rest, add-assoc)
+      let f : n ≡ lineLength (drop at s) = e ∙ ap lineLength r in
+      let g : at + (n + 1) ≡ at + n + 1 = omega arith in
+      rw (c, start-later (drop at s) (k - (i + 1)) (omega (arith, length-drop at s)), drop-drop, ← f, g) (omega arith)
 
-  pub at-here : (k i : ℕ) → k ≤ i → (line : List ℕ) → line ≡ take n (take (length s - at) (drop at s)) → line ≡ getD (lines (drop at s)) (k - i) []
-  at-here k i l line p =
-      let c : k - i ≡ 0 = omega arith in
-      rw (c, lines-cons (drop at s) some) (p ∙ rw (e, rest))
+-- ---- the line of a number stands where it starts
+pub line-found : (k : ℕ) (s : List ℕ) → firstLine (drop (lineStart s k) s) ≡ getD (lines s) k []
+unfolding firstLine lines
+line-found zero [] = rw (start-empty 0, take-nil)
+line-found zero (b ∷ s) = rw (start-first (b ∷ s), lines-cons (b ∷ s) (omega arith))
+line-found (suc k) [] = rw (start-empty (suc k), take-nil)
+line-found (suc k) (b ∷ s) =
+    let n = lineLength (b ∷ s) + 1 in
+    rw (start-later (b ∷ s) k (omega arith), ← drop-drop (lineStart (drop n (b ∷ s)) k) n (b ∷ s), lines-cons (b ∷ s) (omega arith)) (line-found k (drop n (b ∷ s)))
+
+-- so many bytes from there on are the line
+pub line-part : (s : List ℕ) (k : ℕ) → take (length (getD (lines s) k [])) (drop (lineStart s k) s) ≡ getD (lines s) k []
+unfolding firstLine
+line-part s k =
+    let t = drop (lineStart s k) s in
+    rw (← line-found k s, length-take-le (lineLength t) t (line-within t))

@@ -3,7 +3,7 @@ use Prim.Native.Nat.{ℕ, _+_, _-_}
 use mathlib.Core.Bool.{Bool, cond, _||_}
 use mathlib.Core.List.{List, [], _∷_, _++_}
 use lib.Dec.{eqb}
-use lib.ListN.{length, getD}
+use lib.ListN.{length, getD, take}
 
 -- a byte more at the front of the first line
 unfoldable pub inFirst : ℕ → List (List ℕ) → List (List ℕ)
@@ -24,6 +24,14 @@ unlines (l ∷ ls) = l ++ 10 ∷ unlines ls
 unfoldable pub lineLength : List ℕ → ℕ
 lineLength [] = 0
 lineLength (b ∷ s) = cond (eqb b 10) 0 (lineLength s + 1)
+
+-- the line at the front of a text, without its LF
+unfoldable pub firstLine : List ℕ → List ℕ
+firstLine s = take (lineLength s) s
+
+-- where line n starts: after the lines before it, each with its LF
+unfoldable pub lineStart : List ℕ → ℕ → ℕ
+lineStart s n = length (unlines (take n (lines s)))
 
 -- how many LF there are
 unfoldable pub newlines : List ℕ → ℕ

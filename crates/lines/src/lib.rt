@@ -1,8 +1,12 @@
 // The lines of a text, each without the LF that ends it.
+pub mod limits; // how long a text may be
+
+pub use limits::Limit;
+pub use limits::limit_of;
 ghost use mathlib.Core.Path.{_≡_};
 ghost use mathlib.Core.List.{[]};
-ghost use lib.ListN.{getD, take};
-ghost use Rattle.lines.specs.Lines.{lines, lineLength, newlines, endsWithLf};
+ghost use lib.ListN.{getD, take, drop};
+ghost use Rattle.lines.specs.Lines.{lines, lineLength, firstLine, lineStart, newlines, endsWithLf};
 
 const LF: u8 = b'\n';
 
@@ -53,24 +57,47 @@ pub fn front(s: &[u8], n: usize) -> &[u8]
     if n <= s.len() { &s[..n] } else { s }
 }
 
-// The line of that number, as a part of the text; empty where there is none.
-pub fn line_at(text: &[u8], number: usize) -> &[u8]
-    ensures { λ r. ⌜ now r ≡ getD (lines (now (text .entry))) number [] ⌝ }
+// The text from a position on; empty past its end.
+pub fn rest(text: &[u8], at: usize) -> &[u8]
+    ensures { λ r. ⌜ now r ≡ drop at (now (text .entry)) ⌝ }
+{
+    if at <= text.len() {
+        &text[at..]
+    } else {
+        &text[..0]
+    }
+}
+
+// The line that starts at a position, as a part of the text.
+pub fn line_from(text: &[u8], at: usize) -> &[u8]
+    ensures { λ r. ⌜ now r ≡ firstLine (drop at (now (text .entry))) ⌝ }
+{
+    let rest = rest(text, at);
+    let n = line_length(rest);
+    front(rest, n)
+}
+
+// Where the line of that number starts; where the last one ends, if there are fewer.
+pub fn line_start(text: &[u8], number: usize) -> usize
+    ensures { λ r. ⌜ r ≡ lineStart (now (text .entry)) number ⌝ }
 {
     let mut at: usize = 0;
     let mut i: usize = 0;
     while i < number {
         if text.len() <= at {
-            return &text[..0];
+            return at;
         }
-        let rest = &text[at..];
+        let rest = rest(text, at);
         at = at + line_length(rest) + 1;
         i = i + 1;
     }
-    if text.len() <= at {
-        return &text[..0];
-    }
-    let rest = &text[at..];
-    let n = line_length(rest);
-    front(rest, n)
+    at
+}
+
+// The line of that number, as a part of the text; empty where there is none.
+pub fn line_at(text: &[u8], number: usize) -> &[u8]
+    ensures { λ r. ⌜ now r ≡ getD (lines (now (text .entry))) number [] ⌝ }
+{
+    let at = line_start(text, number);
+    line_from(text, at)
 }

@@ -3,11 +3,11 @@ use mathlib.Core.List.{List, [], _∷_}
 use mathlib.Core.Path.{_≡_, refl, sym, ap, _∙_}
 use Prim.Native.Nat.{ℕ, _+_, _-_, _≤_, _<_}
 use native.Mathlib.Omega.{arith}
-use lib.ListN.{length, take, drop, drop-of-length-le, length-drop}
+use lib.ListN.{length, drop, drop-of-length-le, length-drop}
 use lib.Seq.{drop-drop, drop-length}
-use Rattle.lines.specs.Lines.{lines, lineLength}
+use Rattle.lines.specs.Lines.{lines, lineLength, firstLine}
 use Rattle.lines.proofs.Lines.{lines-cons}
-use Rattle.reader.specs.Reader.{firstLine, afterLine}
+use Rattle.reader.specs.Reader.{afterLine}
 
 pub read-on : (s : List ℕ) → 0 < length s → lines s ≡ firstLine s ∷ lines (afterLine s)
 unfolding firstLine afterLine
@@ -19,10 +19,6 @@ read-out = refl
 
 -- a line of length n at the front of what is left from a position on
 module _ (t : List ℕ) (at n : ℕ) (rest : List ℕ) (r : rest ≡ drop at t) (e : n ≡ lineLength rest) where
-  pub line-here : take n rest ≡ firstLine (drop at t)
-  unfolding firstLine
-  line-here = rw (e, r)
-
   pub past-lf : n < length rest → (at + n + 1 ≤ length t) × (drop (at + n + 1) t ≡ afterLine (drop at t))
   unfolding afterLine
   past-lf h =

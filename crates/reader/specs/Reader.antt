@@ -2,15 +2,11 @@
 use mathlib.Core.List.{List}
 use Prim.Native.Nat.{ℕ, _+_}
 use denote.Ref.{now}
-use lib.ListN.{take, drop}
+use lib.ListN.{drop}
 use Rattle.lines.specs.Lines.{lineLength}
 use Rattle.reader.specs.declared.LineReader.{LineReader}
 
--- the line at the front of a text, without its LF
-unfoldable pub firstLine : List ℕ → List ℕ
-firstLine s = take (lineLength s) s
-
--- what follows that line and its LF
+-- what follows the first line and its LF
 unfoldable pub afterLine : List ℕ → List ℕ
 afterLine s = drop (lineLength s + 1) s
 

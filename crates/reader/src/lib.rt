@@ -1,38 +1,20 @@
 // The line reader: it keeps the lent text and how far it has come. Each function over it takes it apart and calls a covered function
 // on the text and the position; the two functions with plain parameters below put a reader to work for the text readers.
-use lines::front;
+use lines::line_from;
 use lines::line_length;
+use lines::rest;
 ghost use mathlib.Core.Path.{_≡_};
 ghost use Prim.Native.Nat.{_≤_};
 ghost use lib.ListN.{length, drop};
-ghost use Rattle.reader.specs.Reader.{firstLine, afterLine, left};
+ghost use Rattle.lines.specs.Lines.{firstLine};
+ghost use Rattle.reader.specs.Reader.{afterLine, left};
 
 pub struct LineReader<'a> {
     pub text: &'a [u8],
     pub at: usize,
 }
 
-// The text from a position on.
-fn rest(text: &[u8], at: usize) -> &[u8]
-    ensures { λ r. ⌜ now r ≡ drop at (now (text .entry)) ⌝ }
-{
-    if at <= text.len() {
-        &text[at..]
-    } else {
-        &text[..0]
-    }
-}
-
-// The line that starts at a position, as a part of the text.
-fn line_from(text: &[u8], at: usize) -> &[u8]
-    ensures { λ r. ⌜ now r ≡ firstLine (drop at (now (text .entry))) ⌝ }
-{
-    let rest = rest(text, at);
-    let n = line_length(rest);
-    front(rest, n)
-}
-
-// The position just past the LF of that line.
+// The position just past the LF of the line that starts at a position.
 fn past_line(text: &[u8], at: usize) -> usize
     ensures { λ r. ⌜ (r ≤ length (now (text .entry))) × (drop r (now (text .entry)) ≡ afterLine (drop at (now (text .entry)))) ⌝ }
 {
@@ -43,13 +25,6 @@ fn past_line(text: &[u8], at: usize) -> usize
     } else {
         text.len()
     }
-}
-
-// A reader at a position of a text: at 0, all of it is left.
-pub fn new<'a>(text: &'a [u8], at: usize) -> LineReader<'a>
-    ensures { λ r. ⌜ (r .text ≡ text .entry) × (r .at ≡ at) ⌝ }
-{
-    LineReader { text, at }
 }
 
 // The line that the reader has come to, without its LF.
@@ -71,13 +46,13 @@ pub fn next<'a>(r: LineReader<'a>) -> LineReader<'a>
 pub fn line_at<'a>(text: &'a [u8], from: usize) -> &'a [u8]
     ensures { λ l. ⌜ now l ≡ firstLine (drop from (now (text .entry))) ⌝ }
 {
-    line(new(text, from))
+    line(LineReader { text, at: from })
 }
 
 // The position that such a reader comes to past that line.
 pub fn after_line<'a>(text: &'a [u8], from: usize) -> usize
     ensures { λ r. ⌜ (r ≤ length (now (text .entry))) × (drop r (now (text .entry)) ≡ afterLine (drop from (now (text .entry)))) ⌝ }
 {
-    let r = next(new(text, from));
+    let r = next(LineReader { text, at: from });
     r.at
 }

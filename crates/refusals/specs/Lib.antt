@@ -1,2 +1,3 @@
 pub mod Types
 pub mod Refusals
+pub mod Refused

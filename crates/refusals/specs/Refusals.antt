@@ -3,94 +3,62 @@ use mathlib.Core.List.{List, []}
 use Prim.Native.Nat.{ℕ}
 use lib.ListN.{getD}
 use Rattle.lines.specs.Lines.{lines}
-use Rattle.refusals.specs.Types.{Refusal, TraceTooLong, TraceUnended, TraceTooManyLines, TraceMalformed, EventMisnumbered, TraceAddressBit, TokenTwice, TokenTooEarly, TablesTooLong, TablesUnended, TablesTooManyLines, TablesMalformed, TablesAddressBit, KeyTwice, OrderIncomplete, EventTooEarly, ListShort, TablesShort, AnswersShort, TooManyEntries, Source, Neither, InTrace, InTables}
+use Rattle.refusals.specs.Types.{Refusal, TraceTooLong, TraceUnended, TraceTooManyLines, TraceMalformed, EventMisnumbered, TraceAddressBit, TokenTwice, TokenTooEarly, TablesTooLong, TablesUnended, TablesTooManyLines, TablesMalformed, TablesAddressBit, KeyTwice, OrderIncomplete, EventTooEarly, ListShort, TablesShort, AnswersShort, TooManyEntries, Source, Neither, InTrace, InTables, Returned}
 
--- the number
-abbrev pub numberOf : Refusal → ℕ
+-- a row of the table: number, place, and the text of which the place is a line
+abbrev pub rowOf : ℕ → ℕ → Source → Returned
+rowOf number place source = record { number = number; place = place; source = source }
+
+-- the place is 0, a line, a position in the order, or the bytes needed
+abbrev pub returned : Refusal → Returned
 -- trace over 65,535 bytes / last byte not LF / over 256 lines
-numberOf TraceTooLong = 1
-numberOf TraceUnended = 2
-numberOf TraceTooManyLines = 3
+returned TraceTooLong = rowOf 1 0 Neither
+returned TraceUnended = rowOf 2 0 Neither
+returned TraceTooManyLines = rowOf 3 0 Neither
 -- line malformed, value outside range
-numberOf (TraceMalformed line) = 4
+returned (TraceMalformed line) = rowOf 4 line InTrace
 -- `ev` isn't the line number
-numberOf (EventMisnumbered line) = 5
+returned (EventMisnumbered line) = rowOf 5 line InTrace
 -- address bit past the prefix
-numberOf (TraceAddressBit line) = 6
+returned (TraceAddressBit line) = rowOf 6 line InTrace
 -- token in `out` of two lines
-numberOf (TokenTwice later) = 7
+returned (TokenTwice later) = rowOf 7 later InTrace
 -- `in` token whose `out` stands on this or a later line
-numberOf (TokenTooEarly line) = 8
+returned (TokenTooEarly line) = rowOf 8 line InTrace
 -- tables: as 1, 2, 3, 4, 6
-numberOf TablesTooLong = 11
-numberOf TablesUnended = 12
-numberOf TablesTooManyLines = 13
-numberOf (TablesMalformed line) = 14
-numberOf (TablesAddressBit line) = 15
+returned TablesTooLong = rowOf 11 0 Neither
+returned TablesUnended = rowOf 12 0 Neither
+returned TablesTooManyLines = rowOf 13 0 Neither
+returned (TablesMalformed line) = rowOf 14 line InTables
+returned (TablesAddressBit line) = rowOf 15 line InTables
 -- tables: switch and key twice
-numberOf (KeyTwice later) = 16
+returned (KeyTwice later) = rowOf 16 later InTables
 -- order's length wrong, or an event missing
-numberOf OrderIncomplete = 21
+returned OrderIncomplete = rowOf 21 0 Neither
 -- event put before one that happens before it
-numberOf (EventTooEarly position) = 22
+returned (EventTooEarly position) = rowOf 22 position Neither
 -- list, tables, answers buffer too short
-numberOf (ListShort needed) = 31
-numberOf (TablesShort needed) = 32
-numberOf (AnswersShort needed) = 33
+returned (ListShort needed) = rowOf 31 needed Neither
+returned (TablesShort needed) = rowOf 32 needed Neither
+returned (AnswersShort needed) = rowOf 33 needed Neither
 -- over 512 entries held
-numberOf TooManyEntries = 41
+returned TooManyEntries = rowOf 41 0 Neither
 
--- what is returned beside the number: 0, a line, a position in the order, or the bytes needed
+abbrev pub numberOf : Refusal → ℕ
+numberOf r = returned r .number
+
 abbrev pub placeOf : Refusal → ℕ
-placeOf TraceTooLong = 0
-placeOf TraceUnended = 0
-placeOf TraceTooManyLines = 0
-placeOf (TraceMalformed line) = line
-placeOf (EventMisnumbered line) = line
-placeOf (TraceAddressBit line) = line
-placeOf (TokenTwice later) = later
-placeOf (TokenTooEarly line) = line
-placeOf TablesTooLong = 0
-placeOf TablesUnended = 0
-placeOf TablesTooManyLines = 0
-placeOf (TablesMalformed line) = line
-placeOf (TablesAddressBit line) = line
-placeOf (KeyTwice later) = later
-placeOf OrderIncomplete = 0
-placeOf (EventTooEarly position) = position
-placeOf (ListShort needed) = needed
-placeOf (TablesShort needed) = needed
-placeOf (AnswersShort needed) = needed
-placeOf TooManyEntries = 0
+placeOf r = returned r .place
 
--- the text of which the place is a line
 abbrev pub sourceOf : Refusal → Source
-sourceOf TraceTooLong = Neither
-sourceOf TraceUnended = Neither
-sourceOf TraceTooManyLines = Neither
-sourceOf (TraceMalformed line) = InTrace
-sourceOf (EventMisnumbered line) = InTrace
-sourceOf (TraceAddressBit line) = InTrace
-sourceOf (TokenTwice later) = InTrace
-sourceOf (TokenTooEarly line) = InTrace
-sourceOf TablesTooLong = Neither
-sourceOf TablesUnended = Neither
-sourceOf TablesTooManyLines = Neither
-sourceOf (TablesMalformed line) = InTables
-sourceOf (TablesAddressBit line) = InTables
-sourceOf (KeyTwice later) = InTables
-sourceOf OrderIncomplete = Neither
-sourceOf (EventTooEarly position) = Neither
-sourceOf (ListShort needed) = Neither
-sourceOf (TablesShort needed) = Neither
-sourceOf (AnswersShort needed) = Neither
-sourceOf TooManyEntries = Neither
+sourceOf r = returned r .source
 
--- the refused line, without its LF: a part of the trace or of the tables, empty where the place is no line
-abbrev pub lineIn : Source → List ℕ → List ℕ → ℕ → List ℕ
-lineIn Neither trace tables n = []
-lineIn InTrace trace tables n = getD (lines trace) n []
-lineIn InTables trace tables n = getD (lines tables) n []
+-- the text that the refused line is a part of; empty where the place is no line
+abbrev pub textIn : Source → List ℕ → List ℕ → List ℕ
+textIn Neither trace tables = []
+textIn InTrace trace tables = trace
+textIn InTables trace tables = tables
 
+-- the refused line, without its LF; empty where the place is no line
 unfoldable pub lineOf : List ℕ → List ℕ → Refusal → List ℕ
-lineOf trace tables r = lineIn (sourceOf r) trace tables (placeOf r)
+lineOf trace tables r = getD (lines (textIn (sourceOf r) trace tables)) (placeOf r) []

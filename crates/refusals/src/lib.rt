@@ -1,7 +1,11 @@
 // What is refused: document 01's table of refusals, and the refused line.
 pub mod line;
 pub mod refusal;
+pub mod refused;
 
 pub use line::refused_line;
+pub use line::text_in;
 pub use refusal::Refusal;
+pub use refusal::Returned;
 pub use refusal::Source;
+pub use refused::Refused;

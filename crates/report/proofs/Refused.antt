@@ -5,15 +5,18 @@ use mathlib.Core.Path.{_≡_, refl, sym, ap, _∙_}
 use mathlib.Core.List.{List, [], _∷_}
 use mathlib.Core.Logic.{_⊎_, inl, inr}
 use mathlib.Core.Option.{Option, none, some}
-use lib.Dec.{eqb, ltb}
+use lib.Dec.{eqb}
 use lib.ListN.{length, getD, length-append}
-use borrow.Author.Tests.{ltb-false}
 use Rattle.flow.proofs.Booleans.{split}
-use Rattle.lines.specs.Lines.{inFirst, lines, endsWithLf}
-use Rattle.refusals.specs.Refusals.{placeOf, sourceOf, lineIn, lineOf}
+use Rattle.lines.specs.Lines.{inFirst, lines}
+use Rattle.lines.specs.Limits.{limitOf}
+use Rattle.lines.specs.declared.limits.Limit.{Limit}
+use Rattle.lines.proofs.LimitLaws.{limit-within}
+use Rattle.reader.proofs.Each.{each-length, each-only, each-refused}
+use Rattle.refusals.specs.Refusals.{placeOf, sourceOf, textIn, lineOf}
 use Rattle.eventline.specs.EventLine.{clearEvent, readLine, onLine, readEvent}
 use Rattle.trace.specs.Search.{lowest}
-use Rattle.trace.specs.TraceText.{twice, tooEarly, refusedAt, checkTokens, onEvent, onEvents, readLines, readTrace}
+use Rattle.trace.specs.TraceText.{twice, tooEarly, refusedAt, checkTokens, onEvents, readLines, withinLimits, readTrace}
 use Rattle.trace.proofs.Accepted.{token-twice-line, token-early-line}
 use Rattle.report.specs.Types.{Event, Refusal, TokenTwice, TokenTooEarly, Source, Neither, InTrace, InTables}
 use Rattle.diagnostics.specs.Report.{lineText}
@@ -21,14 +24,8 @@ use Rattle.diagnostics.specs.Report.{lineText}
 same-refusal : {A : Type 0} {q r : Refusal} → _≡_ {A = Refusal ⊎ A} (inl q) (inl r) → q ≡ r
 same-refusal e = cc
 
-same-value : {A : Type 0} {a b : A} → _≡_ {A = Refusal ⊎ A} (inr a) (inr b) → a ≡ b
-same-value e = cc
-
 not-both : {A G : Type 0} {r : Refusal} {a : A} → inr a ≡ inl r → G
 not-both e = let z : _≡_ {A = ℕ} 0 1 = cc in absurd (omega arith)
-
-not-refused : {A G : Type 0} {r : Refusal} {a : A} → inl r ≡ inr a → G
-not-refused e = not-both (sym e)
 
 -- ---- the place
 -- 4, 5, 6 are of the line itself
@@ -44,28 +41,14 @@ event-place k l r h = go (readLine l) h
         (λ b. ap placeOf (sym (same-refusal (rw (a, b) at u)))))
         (λ a. ap placeOf (sym (same-refusal (rw a at u))))
 
-lines-place : (ls : List (List ℕ)) (k : ℕ) (r : Refusal) → readLines k ls ≡ inl r → placeOf r ≤ k + length ls
-unfolding readLines
-lines-place [] k r h = not-both h
-lines-place (l ∷ ls) k r h = go (readEvent k l) refl (readLines (k + 1) ls) refl h (lines-place ls (k + 1))
-  where
-    go : (x : Refusal ⊎ Event) → readEvent k l ≡ x → (y : Refusal ⊎ List Event) → readLines (k + 1) ls ≡ y → onEvent x y ≡ inl r
-        → ((q : Refusal) → readLines (k + 1) ls ≡ inl q → placeOf q ≤ k + 1 + length ls) → placeOf r ≤ k + suc (length ls)
-    go (inl q) a y b u ih = omega (arith, event-place k l q a, ap placeOf (same-refusal u))
-    go (inr e) a (inl q) b u ih = omega (arith, ih q b, ap placeOf (same-refusal u))
-    go (inr e) a (inr es) b u ih = not-both u
+lines-place : (k : ℕ) (ls : List (List ℕ)) (r : Refusal) → readLines k ls ≡ inl r → placeOf r ≤ k + length ls
+lines-place k ls r h =
+    let (j, l, a, b, e) = each-refused readEvent k ls r h in
+    omega (arith, event-place j l r e)
 
 -- an event for each line
-lines-many : (ls : List (List ℕ)) (k : ℕ) (es : List Event) → readLines k ls ≡ inr es → length es ≡ length ls
-unfolding readLines
-lines-many [] k es h = ap length (sym (same-value h))
-lines-many (l ∷ ls) k es h = go (readEvent k l) (readLines (k + 1) ls) refl h (lines-many ls (k + 1))
-  where
-    go : (x : Refusal ⊎ Event) (y : Refusal ⊎ List Event) → readLines (k + 1) ls ≡ y → onEvent x y ≡ inr es
-        → ((fs : List Event) → readLines (k + 1) ls ≡ inr fs → length fs ≡ length ls) → length es ≡ suc (length ls)
-    go (inl q) y b u ih = not-refused u
-    go (inr e) (inl q) b u ih = not-refused u
-    go (inr e) (inr fs) b u ih = omega (arith, ih fs b, ap length (same-value u))
+lines-many : (k : ℕ) (ls : List (List ℕ)) (es : List Event) → readLines k ls ≡ inr es → length ls ≡ length es
+lines-many k ls es h = each-length _ k ls es (each-only readEvent (λ j l e. Unit {0}) (λ j l e g. tt) k ls es h)
 
 -- 7, 8 are of a line of the trace
 tokens-place : (es : List Event) (r : Refusal) → checkTokens es ≡ inl r → placeOf r < length es
@@ -80,17 +63,17 @@ tokens-place es r h = go (lowest (twice es) (length es)) (lowest (tooEarly es) (
 -- 1, 2 and 3 have the place 0, and there are at most 256 lines
 pub refused-place : (s : List ℕ) (r : Refusal) → readTrace s ≡ inl r → placeOf r ≤ 256
 unfolding readTrace
-refused-place s r h = split (ltb 65535 (length s))
-    (λ a. rw (← same-refusal (rw a at h)) (omega arith))
-    (λ a. split (endsWithLf s)
-    (λ b. split (ltb 256 (length (lines s)))
-    (λ c. rw (← same-refusal (rw (a, b, c) at h)) (omega arith))
-    (λ c. go (readLines 0 (lines s)) refl (ltb-false 256 (length (lines s)) c) (rw (a, b, c) at h)))
-    (λ b. rw (← same-refusal (rw (a, b) at h)) (omega arith)))
+refused-place s r h = go (limitOf s) refl h
   where
-    go : (x : Refusal ⊎ List Event) → readLines 0 (lines s) ≡ x → length (lines s) ≤ 256 → onEvents x ≡ inl r → placeOf r ≤ 256
-    go (inl q) e l u = omega (arith, lines-place (lines s) 0 q e, ap placeOf (same-refusal u))
-    go (inr es) e l u = omega (arith, lines-many (lines s) 0 es e, tokens-place es r u)
+    on-lines : (x : Refusal ⊎ List Event) → readLines 0 (lines s) ≡ x → length (lines s) ≤ 256 → onEvents x ≡ inl r → placeOf r ≤ 256
+    on-lines (inl q) e l u = omega (arith, lines-place 0 (lines s) q e, ap placeOf (same-refusal u))
+    on-lines (inr es) e l u = omega (arith, lines-many 0 (lines s) es e, tokens-place es r u)
+
+    go : (x : Limit) → limitOf s ≡ x → withinLimits x (onEvents (readLines 0 (lines s))) ≡ inl r → placeOf r ≤ 256
+    go Limit.TooLong p u = rw (← same-refusal u) (omega arith)
+    go Limit.Unended p u = rw (← same-refusal u) (omega arith)
+    go Limit.TooManyLines p u = rw (← same-refusal u) (omega arith)
+    go Limit.Kept p u = on-lines (readLines 0 (lines s)) refl (limit-within s p .few) u
 
 -- ---- the refused line
 first-most : (b : ℕ) (ls : List (List ℕ)) (n : ℕ) → ((k : ℕ) → length (getD ls k []) ≤ n) → (k : ℕ) → length (getD (inFirst b ls) k []) ≤ suc n
@@ -110,14 +93,18 @@ unfolding lines
 line-most [] k = omega arith
 line-most (b ∷ s) k = split (eqb b 10) (λ e. rw e (after-most (lines s) (length s) (line-most s) k)) (λ e. rw e (first-most b (lines s) (length s) (line-most s) k))
 
-text-most : (s : List ℕ) (q : Source) (n : ℕ) → length (lineText q (lineIn q s [] n)) ≤ length s + 1
+text-most : (s : List ℕ) (q : Source) (n : ℕ) → length (lineText q (getD (lines (textIn q s [])) n [])) ≤ length s + 1
 text-most s Neither n = omega arith
 text-most s InTrace n = omega (arith, length-append (getD (lines s) n []) (10 ∷ []), line-most s n)
 text-most s InTables n = omega (arith, length-append (getD (lines []) n []) (10 ∷ []), line-most [] n)
 
--- a text that is too long has no refused line; the line of any other fits 65,536 bytes with its LF
+-- a text that exceeds a limit has no refused line; the line of any other fits 65,536 bytes with its LF
 pub refused-text : (s : List ℕ) (r : Refusal) → readTrace s ≡ inl r → length (lineText (sourceOf r) (lineOf s [] r)) ≤ 65536
 unfolding readTrace lineOf
-refused-text s r h = split (ltb 65535 (length s))
-    (λ a. rw (← same-refusal (rw a at h)) (omega arith))
-    (λ a. omega (arith, text-most s (sourceOf r) (placeOf r), ltb-false 65535 (length s) a))
+refused-text s r h = go (limitOf s) refl h
+  where
+    go : (x : Limit) → limitOf s ≡ x → withinLimits x (onEvents (readLines 0 (lines s))) ≡ inl r → length (lineText (sourceOf r) (lineOf s [] r)) ≤ 65536
+    go Limit.TooLong p u = rw (← same-refusal u) (omega arith)
+    go Limit.Unended p u = rw (← same-refusal u) (omega arith)
+    go Limit.TooManyLines p u = rw (← same-refusal u) (omega arith)
+    go Limit.Kept p u = omega (arith, text-most s (sourceOf r) (placeOf r), limit-within s p .bytes)

@@ -1,38 +1,38 @@
 -- What an accepted table text holds.
 use Prim.Native.Nat.{ℕ, _+_, _≤_}
-use mathlib.Core.Bool.{Bool, true, false, not, cond}
+use mathlib.Core.Bool.{Bool, true, false, cond}
 use mathlib.Core.List.{List, [], _∷_, List·Memᴰ, List·Memᴰ·head, List·Memᴰ·tail, List·Memᴰ·cases-cons, List·Memᴰ·not-nil}
 use mathlib.Core.Logic.{_↔_, _⊎_, inl, inr, ⊎-elim}
 use mathlib.Core.Path.{_≡_, refl, ap}
 use native.Mathlib.Omega.{arith}
-use borrow.Author.Tests.{ltb-false, le-ltb, eqb-true, eqb-false, not-false}
-use lib.Dec.{ltb, eqb}
+use borrow.Author.Tests.{eqb-true, eqb-false}
+use lib.Dec.{eqb}
 use lib.ListN.{length}
 use Rattle.digits.proofs.Readers.{on-cond}
-use Rattle.lines.specs.Lines.{lines, endsWithLf}
+use Rattle.reader.proofs.Each.{refuses}
+use Rattle.lines.specs.Lines.{lines}
+use Rattle.lines.specs.Limits.{limitOf, Within}
+use Rattle.lines.proofs.LimitLaws.{within-limit, limit-within}
 use Rattle.table.specs.FlowTable.{Sorted}
 use Rattle.rows.specs.Rows.{row, SortedRows, tableOf, insertRow, anyRow, sameSlot}
 use Rattle.sorting.specs.Sorting.{sortFrom, sortRows}
 use Rattle.rows.proofs.RowLaws.{length-insert}
 use Rattle.rows.proofs.TablesOf.{sorted-table}
 use Rattle.sorting.proofs.SortLaws.{InOrder, sort-rows}
-use Rattle.rules.specs.Types.{Entry, Refusal, Row}
-use Rattle.rules.specs.TableText.{readRows, sorted, inOrder, readTables, Holds, RowInRange}
-use Rattle.rules.proofs.Lines.{refuses, ReadAs, read-as, as-read, same-length, in-range, line-of, mem-at}
+use Rattle.rules.specs.Types.{Entry, Refusal, Limit, Row}
+use Rattle.rules.specs.TableText.{readRows, sorted, inOrder, withinLimits, readTables, Holds, RowInRange}
+use Rattle.rules.proofs.Lines.{ReadAs, read-as, as-read, same-length, in-range, line-of, mem-at}
 
 -- ---- an accepted text: none of the refusals applies to it
 pub record Accepted (s : List ℕ) (rs : List Row) : Type 0 where
-  pub bytes : length s ≤ 65535
-  pub ended : endsWithLf s ≡ true
-  pub few : length (lines s) ≤ 256
+  pub within : Within s
   pub each : List Row
-  pub read : ReadAs (lines s) each
+  pub read : ReadAs 0 (lines s) each
   pub order : sortRows each ≡ inr rs
 
-sorted-as : (s : List ℕ) (rs : List Row) → length s ≤ 65535 → endsWithLf s ≡ true → length (lines s) ≤ 256
-    → (x : Refusal ⊎ List Row) → readRows 0 (lines s) ≡ x → sorted x ≡ inr rs → Accepted s rs
-sorted-as s rs a b c (inl e) p q = refuses q
-sorted-as s rs a b c (inr ls) p q = record { bytes = a; ended = b; few = c; each = ls; read = read-as 0 (lines s) ls p; order = go (sortRows ls) q }
+sorted-as : (s : List ℕ) (rs : List Row) → Within s → (x : Refusal ⊎ List Row) → readRows 0 (lines s) ≡ x → sorted x ≡ inr rs → Accepted s rs
+sorted-as s rs w (inl e) p q = refuses q
+sorted-as s rs w (inr ls) p q = record { within = w; each = ls; read = read-as 0 (lines s) ls p; order = go (sortRows ls) q }
   where
     go : (y : ℕ ⊎ List Row) → inOrder y ≡ inr rs → y ≡ inr rs
     go (inl k) e = refuses e
@@ -40,16 +40,17 @@ sorted-as s rs a b c (inr ls) p q = record { bytes = a; ended = b; few = c; each
 
 accepted : (s : List ℕ) (rs : List Row) → readTables s ≡ inr rs → Accepted s rs
 unfolding readTables
-accepted s rs e =
-    on-cond (ltb 65535 (length s)) (λ t p. refuses p)
-    (λ t p. on-cond (not (endsWithLf s)) (λ u q. refuses q)
-    (λ u q. on-cond (ltb 256 (length (lines s))) (λ v r. refuses r)
-    (λ v r. sorted-as s rs (ltb-false _ _ t) (not-false _ u) (ltb-false _ _ v) (readRows 0 (lines s)) refl r) q) p) e
+accepted s rs e = go (limitOf s) refl e
+  where
+    go : (x : Limit) → limitOf s ≡ x → withinLimits x (sorted (readRows 0 (lines s))) ≡ inr rs → Accepted s rs
+    go Limit.TooLong p q = refuses q
+    go Limit.Unended p q = refuses q
+    go Limit.TooManyLines p q = refuses q
+    go Limit.Kept p q = sorted-as s rs (limit-within s p) (readRows 0 (lines s)) refl q
 
 pub accepting : (s : List ℕ) (rs : List Row) → Accepted s rs → readTables s ≡ inr rs
 unfolding readTables
-accepting s rs a =
-    rw (le-ltb _ _ (a .bytes), a .ended, le-ltb _ _ (a .few), as-read 0 (lines s) (a .each) (a .read), a .order)
+accepting s rs a = rw (within-limit s (a .within), as-read 0 (lines s) (a .each) (a .read), a .order)
 
 -- ---- what holds of an accepted text and its rows
 sort-length : (k : ℕ) (earlier ls rs : List Row) → sortFrom k earlier ls ≡ inr rs → length rs ≤ length earlier + length ls
@@ -89,8 +90,8 @@ module _ (s : List ℕ) (rs : List Row) (e : readTables s ≡ inr rs) where
   -- its rows are those of its lines
   pub accepted-holds : (r : Row) → Holds s r ↔ List·Memᴰ r rs
   accepted-holds r = (
-    λ (k, w). each-in-order .back r (mem-at (all .each) r .1 (k, line-of (lines s) (all .each) (all .read) k r .1 w)),
-    λ m. let (k, p) = mem-at (all .each) r .0 (each-in-order .forth r m) in (k, line-of (lines s) (all .each) (all .read) k r .0 p),
+    λ (k, w). each-in-order .back r (mem-at (all .each) r .1 (k, line-of 0 (lines s) (all .each) (all .read) k r .1 w)),
+    λ m. let (k, p) = mem-at (all .each) r .0 (each-in-order .forth r m) in (k, line-of 0 (lines s) (all .each) (all .read) k r .0 p),
   )
 
   -- switches rising, then table order
@@ -99,11 +100,11 @@ module _ (s : List ℕ) (rs : List Row) (e : readTables s ≡ inr rs) where
 
   -- each row is in range
   pub accepted-range : (r : Row) → List·Memᴰ r rs → RowInRange r
-  accepted-range r m = in-range (lines s) (all .each) (all .read) r (each-in-order .forth r m)
+  accepted-range r m = in-range 0 (lines s) (all .each) (all .read) r (each-in-order .forth r m)
 
   -- there are at most 256
   pub accepted-length : length rs ≤ 256
-  accepted-length = omega (arith, sorted-length (all .each) rs (all .order), same-length (lines s) (all .each) (all .read), all .few)
+  accepted-length = omega (arith, sorted-length (all .each) rs (all .order), same-length 0 (lines s) (all .each) (all .read), all .within .few)
 
   -- each switch's rows are a table in order
   pub accepted-table : (w : ℕ) → Sorted (tableOf w rs)

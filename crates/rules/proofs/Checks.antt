@@ -9,11 +9,11 @@ use borrow.Author.Tests.{lt-ltb, le-ltb}
 use lib.ListN.{length, drop}
 use Rattle.digits.specs.Print.{Put}
 use Rattle.digits.proofs.Writing.{put-whole}
-use Rattle.lines.specs.Lines.{lines, newlines, endsWithLf}
-use Rattle.lines.proofs.Lines.{lines-count}
+use Rattle.lines.specs.Lines.{lines}
+use Rattle.lines.specs.Limits.{limitOf}
 use Rattle.sorting.specs.Sorting.{sortRows}
-use Rattle.rules.specs.Types.{Refusal, TablesTooLong, TablesUnended, TablesTooManyLines, KeyTwice, TablesShort, Row, Outcome, Accepted, Refused}
-use Rattle.rules.specs.TableText.{readRows, inOrder, sorted, readTables, asOutcome}
+use Rattle.rules.specs.Types.{Refusal, KeyTwice, Limit, TablesShort, Row, Outcome, Accepted, Refused}
+use Rattle.rules.specs.TableText.{readRows, inOrder, sorted, withinLimits, readTables, asOutcome}
 use Rattle.rules.specs.Normal.{Normalised, normalText, putText, normalised}
 
 -- ---- what a sort's answer says
@@ -25,29 +25,10 @@ module _ (ok : Bool) (rs : List Row) (k : ℕ) (answer : ℕ ⊎ List Row) (e : 
   twice-rows t = ap inOrder (rw t at e)
 
 -- ---- the checks of a text, in their order
-module _ (s : List ℕ) where
-  pub too-long : 65535 < length s → inl TablesTooLong ≡ readTables s
-  unfolding readTables
-  too-long h = sym (rw (lt-ltb _ _ h))
-
-  module _ (short : length s ≤ 65535) where
-    pub unended : endsWithLf s ≡ false → inl TablesUnended ≡ readTables s
-    unfolding readTables
-    unended e = sym (rw (le-ltb _ _ short, e))
-
-    module _ (ended : endsWithLf s ≡ true) where
-      pub few-lines : newlines s ≤ 256 → length (lines s) ≤ 256
-      few-lines h = omega (arith, lines-count s ended)
-
-      pub too-many-lines : 256 < newlines s → inl TablesTooManyLines ≡ readTables s
-      unfolding readTables
-      too-many-lines h =
-          let l : 256 < length (lines s) = omega (arith, lines-count s ended) in
-          sym (rw (le-ltb _ _ short, ended, lt-ltb _ _ l))
-
-      pub lines-checked : newlines s ≤ 256 → sorted (readRows 0 (lines s)) ≡ readTables s
-      unfolding readTables
-      lines-checked h = sym (rw (le-ltb _ _ short, ended, le-ltb _ _ (few-lines h)))
+pub limited : (s : List ℕ) {limit form : Limit} {x : Refusal ⊎ List Row} → limit ≡ limitOf s → limit ≡ form
+    → x ≡ withinLimits form (sorted (readRows 0 (lines s))) → x ≡ readTables s
+unfolding readTables
+limited s e f h = rw (← e, f) h
 
 -- ---- an answer, by its case
 module _ (o : Outcome) (rs : List Row) (x : Refusal ⊎ List Row) (e : asOutcome o rs ≡ x) where

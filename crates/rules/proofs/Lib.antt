@@ -1,6 +1,5 @@
 pub mod RowFormat
 pub mod Lines
-pub mod Loops
 pub mod Checks
 pub mod Writing
 pub mod Accepted

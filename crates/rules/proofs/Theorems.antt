@@ -19,11 +19,13 @@ use Rattle.rows.proofs.RowOrder.{like-slot, row-self}
 use Rattle.rows.proofs.RowLaws.{same-rows}
 use Rattle.sorting.proofs.SortLaws.{LowestTwice, Twice, Outcome, sort-outcome, sort-line, stands-iff}
 use Rattle.flow.specs.declared.ordering.Ordering.the-variants.{Less}
-use Rattle.rules.specs.Types.{Refusal, KeyTwice, Row}
-use Rattle.rules.specs.TableText.{printRow, readRows, sorted, inOrder, readTables, HoldSame, TwiceOn, LowestOn}
+use Rattle.lines.specs.Limits.{limitOf}
+use Rattle.reader.proofs.Each.{accepts}
+use Rattle.rules.specs.Types.{Refusal, KeyTwice, Limit, Row}
+use Rattle.rules.specs.TableText.{printRow, readRows, sorted, inOrder, withinLimits, readTables, HoldSame, TwiceOn, LowestOn}
 use Rattle.rules.specs.Normal.{normalText, normalised}
 use Rattle.rules.proofs.RowFormat.{row-format}
-use Rattle.rules.proofs.Lines.{accepts, ReadAs, read-as, no-key-twice, line-of, printed}
+use Rattle.rules.proofs.Lines.{ReadAs, read-as, no-key-twice, line-of, printed}
 use Rattle.rules.proofs.Writing.{normal-length}
 use Rattle.rules.proofs.Accepted.{accepting, accepted-holds, accepted-sorted, accepted-range, accepted-length}
 
@@ -79,11 +81,13 @@ module _ (s : List ℕ) (rs : List Row) (e : readTables s ≡ inr rs) where
   -- the normal text of an accepted text is accepted, with the same rows
   pub normal-accepted : readTables (normalText rs) ≡ inr rs
   normal-accepted = accepting (normalText rs) rs (record {
-    bytes = omega (arith, normal-length rs, accepted-length s rs e);
-    ended = normal-ends;
-    few = rw (normal-lines, length-map) (accepted-length s rs e);
+    within = record {
+      bytes = omega (arith, normal-length rs, accepted-length s rs e);
+      ended = normal-ends;
+      few = rw (normal-lines, length-map) (accepted-length s rs e);
+    };
     each = rs;
-    read = rw normal-lines (printed rs (accepted-range s rs e));
+    read = rw normal-lines (printed 0 rs (accepted-range s rs e));
     order = sort-sorted rs (accepted-sorted s rs e);
   })
 
@@ -119,16 +123,16 @@ module _ (s t : List ℕ) (rs qs : List Row) (p : readTables s ≡ inr rs) (q : 
           (λ r m. accepted-holds s rs p r .0 (h r .1 (accepted-holds t qs q r .1 m))))
 
 -- ---- refusal 16: the lowest line whose switch and key stand on an earlier line
-twice-lines : (s : List ℕ) (each : List Row) → ReadAs (lines s) each → (k : ℕ) → Twice each k ↔ TwiceOn s k
+twice-lines : (s : List ℕ) (each : List Row) → ReadAs 0 (lines s) each → (k : ℕ) → Twice each k ↔ TwiceOn s k
 twice-lines s each a k = (
-  λ (j, x, y, h, p, q, e). (j, x, y, h, line-of (lines s) each a j x .0 p, line-of (lines s) each a k y .0 q, ap (λ z. z .switch) e, ap (λ z. z .key) e),
-  λ (j, x, y, h, p, q, e, f). (j, x, y, h, line-of (lines s) each a j x .1 p, line-of (lines s) each a k y .1 q, λ i. record { switch = e i; key = f i }),
+  λ (j, x, y, h, p, q, e). (j, x, y, h, line-of 0 (lines s) each a j x .0 p, line-of 0 (lines s) each a k y .0 q, ap (λ z. z .switch) e, ap (λ z. z .key) e),
+  λ (j, x, y, h, p, q, e, f). (j, x, y, h, line-of 0 (lines s) each a j x .1 p, line-of 0 (lines s) each a k y .1 q, λ i. record { switch = e i; key = f i }),
 )
 
 other-refusal : {P : Type 0} {e : Refusal} {k : ℕ} → _≡_ {A = Refusal ⊎ List Row} (inl e) (inl (KeyTwice k)) → (numberOf e ≡ 16 → ⊥) → P
 other-refusal {e = e} {k} p h = let q : e ≡ KeyTwice k = cc in absurd (h (ap numberOf q))
 
-lowest-twice : (s : List ℕ) (each : List Row) → ReadAs (lines s) each → (k : ℕ) → LowestTwice each k → LowestOn s k
+lowest-twice : (s : List ℕ) (each : List Row) → ReadAs 0 (lines s) each → (k : ℕ) → LowestTwice each k → LowestOn s k
 lowest-twice s each a k t = (
   twice-lines s each a k .0 (stands-iff each k .0 (t .twice)),
   λ j h w. true≢false (sym (stands-iff each j .1 (twice-lines s each a j .1 w)) ∙ t .lowest j h),
@@ -145,8 +149,10 @@ sorted-twice s k (inr each) p q =
 
 pub key-twice : (s : List ℕ) (k : ℕ) → readTables s ≡ inl (KeyTwice k) → LowestOn s k
 unfolding readTables
-key-twice s k e =
-    on-cond (ltb 65535 (length s)) (λ t p. other-refusal p (λ z. omega arith))
-    (λ t p. on-cond (not (endsWithLf s)) (λ u q. other-refusal q (λ z. omega arith))
-    (λ u q. on-cond (ltb 256 (length (lines s))) (λ v r. other-refusal r (λ z. omega arith))
-    (λ v r. sorted-twice s k (readRows 0 (lines s)) refl r) q) p) e
+key-twice s k e = go (limitOf s) e
+  where
+    go : (x : Limit) → withinLimits x (sorted (readRows 0 (lines s))) ≡ inl (KeyTwice k) → LowestOn s k
+    go Limit.TooLong p = other-refusal p (λ z. omega arith)
+    go Limit.Unended p = other-refusal p (λ z. omega arith)
+    go Limit.TooManyLines p = other-refusal p (λ z. omega arith)
+    go Limit.Kept p = sorted-twice s k (readRows 0 (lines s)) refl p

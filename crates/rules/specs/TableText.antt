@@ -1,14 +1,16 @@
 -- Document 01, "Tables and replay": a table text, and what is read from it. That `readRow` reads the texts of `printRow` and no
 -- others is proved in proofs/RowFormat.antt.
-use Prim.Native.Nat.{ℕ, _+_, _<_}
-use mathlib.Core.Bool.{not, cond}
+use Prim.Native.Nat.{ℕ, _<_}
+use mathlib.Core.Bool.{cond}
 use mathlib.Core.List.{List, [], _∷_, _++_}
 use mathlib.Core.Logic.{_↔_, _⊎_, inl, inr}
 use mathlib.Core.Option.{Option, none, some}
 use mathlib.Core.Path.{_≡_}
-use lib.Dec.{eqb, ltb}
+use lib.Dec.{eqb}
 use lib.ListN.{length, getElem?}
-use Rattle.lines.specs.Lines.{lines, endsWithLf}
+use Rattle.lines.specs.Lines.{lines}
+use Rattle.lines.specs.Limits.{limitOf}
+use Rattle.reader.specs.Each.{readEach}
 use Rattle.digits.specs.Reading.{Reader, mapped, keyed, both}
 use Rattle.digits.specs.Number.{readNumber}
 use Rattle.digits.specs.Print.{printNumber}
@@ -18,7 +20,7 @@ use Rattle.fields.specs.Read.{readEntry}
 use Rattle.fields.specs.Written.{EntryWritten, clearEntry}
 use Rattle.rows.specs.Rows.{row, rowsOf}
 use Rattle.sorting.specs.Sorting.{sortRows}
-use Rattle.rules.specs.Types.{Refusal, TablesTooLong, TablesUnended, TablesTooManyLines, TablesMalformed, TablesAddressBit, KeyTwice, Row, RowRead, RowTaken, RowRefused, Outcome, Accepted, Refused, TablesRead}
+use Rattle.rules.specs.Types.{Refusal, TablesTooLong, TablesUnended, TablesTooManyLines, TablesMalformed, TablesAddressBit, KeyTwice, Limit, Row, RowRead, RowTaken, RowRefused, Outcome, Accepted, Refused, TablesRead}
 
 -- ---- a line
 -- `sw=`
@@ -61,16 +63,9 @@ checkRow k (some r) = cond (clearEntry (r .entry)) (inr r) (inl (TablesAddressBi
 unfoldable pub readLine : ℕ → List ℕ → Refusal ⊎ Row
 readLine k l = checkRow k (readRow l)
 
--- a line's row before those of the later lines; the first line that is refused decides
-abbrev pub rowThen : Refusal ⊎ Row → Refusal ⊎ List Row → Refusal ⊎ List Row
-rowThen (inl e) rest = inl e
-rowThen (inr r) (inl e) = inl e
-rowThen (inr r) (inr rs) = inr (r ∷ rs)
-
 -- the rows of the lines from line k on
-unfoldable pub readRows : ℕ → List (List ℕ) → Refusal ⊎ List Row
-readRows k [] = inr []
-readRows k (l ∷ ls) = rowThen (readLine k l) (readRows (k + 1) ls)
+abbrev pub readRows : ℕ → List (List ℕ) → Refusal ⊎ List Row
+readRows = readEach readLine
 
 -- the rows in order, switches rising, then table order; or the first line whose switch and key stand on an earlier one
 abbrev pub inOrder : ℕ ⊎ List Row → Refusal ⊎ List Row
@@ -82,12 +77,14 @@ sorted (inl e) = inl e
 sorted (inr rs) = inOrder (sortRows rs)
 
 -- the rows of a table text, in order, or the first refusal: 11, 12, 13; on each line 14, 15; 16
+abbrev pub withinLimits : Limit → Refusal ⊎ List Row → Refusal ⊎ List Row
+withinLimits Limit.TooLong rest = inl TablesTooLong
+withinLimits Limit.Unended rest = inl TablesUnended
+withinLimits Limit.TooManyLines rest = inl TablesTooManyLines
+withinLimits Limit.Kept rest = rest
+
 unfoldable pub readTables : List ℕ → Refusal ⊎ List Row
-readTables s =
-    cond (ltb 65535 (length s)) (inl TablesTooLong)
-    (cond (not (endsWithLf s)) (inl TablesUnended)
-    (cond (ltb 256 (length (lines s))) (inl TablesTooManyLines)
-    (sorted (readRows 0 (lines s)))))
+readTables s = withinLimits (limitOf s) (sorted (readRows 0 (lines s)))
 
 -- ---- what two texts hold
 -- the row stands on line k

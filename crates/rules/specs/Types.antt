@@ -4,6 +4,7 @@ pub use Rattle.refusals.specs.declared.refusal.Refusal.{Refusal}
 pub use Rattle.refusals.specs.declared.refusal.Refusal.the-variants.{TablesTooLong, TablesUnended, TablesTooManyLines, TablesMalformed, TablesAddressBit, KeyTwice, TablesShort}
 pub use Rattle.rows.specs.declared.row.Row.{Row}
 pub use Rattle.rows.specs.declared.row.Rows.{Rows}
+pub use Rattle.lines.specs.declared.limits.Limit.{Limit}
 pub use Rattle.rules.specs.declared.line.RowRead.{RowRead}
 pub use Rattle.rules.specs.declared.line.RowRead.the-variants.{Read as RowTaken, Refused as RowRefused}
 pub use Rattle.rules.specs.declared.read.Outcome.{Outcome}

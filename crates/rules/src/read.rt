@@ -2,6 +2,7 @@
 use crate::line::RowRead;
 use crate::line::row_line;
 use crate::store::no_rows;
+use lines::Limit;
 use refusals::Refusal;
 use rows::Rows;
 ghost use mathlib.Core.Path.{_≡_};
@@ -11,7 +12,7 @@ ghost use lib.ListN.{length};
 ghost use Rattle.lines.specs.Lines.{lines};
 ghost use Rattle.rows.specs.Rows.{rowsOf};
 ghost use Rattle.sorting.specs.Sorting.{sortRows};
-ghost use Rattle.rules.specs.TableText.{readRows, inOrder, readTables, asTables};
+ghost use Rattle.rules.specs.TableText.{readRows, inOrder, sorted, readTables, asTables};
 
 // Whether the text is accepted.
 pub enum Outcome {
@@ -88,24 +89,29 @@ fn sort_rows(lines: Rows) -> TablesRead
     }
 }
 
-// The rows of a text, in order, or the first refusal.
-pub fn read_tables(text: &[u8]) -> TablesRead
-    ensures { λ r. ⌜ (asTables r ≡ readTables (now (text .entry))) × (r .rows .len ≤ 256) ⌝ }
+// The rows of the lines, or the first refusal of a line; then in order.
+fn read_sorted(text: &[u8]) -> TablesRead
+    requires { ⌜ length (lines (now text)) ≤ 256 ⌝ }
+    ensures { λ r. ⌜ (asTables r ≡ sorted (readRows 0 (lines (now (text .entry))))) × (r .rows .len ≤ 256) ⌝ }
 {
-    if 65535 < text.len() {
-        return refused(Refusal::TablesTooLong);
-    }
-    if !lines::ends_with_lf(text) {
-        return refused(Refusal::TablesUnended);
-    }
-    if 256 < lines::count_lines(text) {
-        return refused(Refusal::TablesTooManyLines);
-    }
     let read = read_rows(text);
     let outcome = read.outcome;
     let rows = read.rows;
     match outcome {
         Outcome::Refused(_) => read,
         Outcome::Accepted => sort_rows(rows),
+    }
+}
+
+// The rows of a text, in order, or the first refusal.
+pub fn read_tables(text: &[u8]) -> TablesRead
+    ensures { λ r. ⌜ (asTables r ≡ readTables (now (text .entry))) × (r .rows .len ≤ 256) ⌝ }
+{
+    let limit = lines::limit_of(text);
+    match limit {
+        Limit::TooLong => refused(Refusal::TablesTooLong),
+        Limit::Unended => refused(Refusal::TablesUnended),
+        Limit::TooManyLines => refused(Refusal::TablesTooManyLines),
+        Limit::Kept => read_sorted(text),
     }
 }

@@ -2,29 +2,29 @@
 -- events carry is in range. Assumes nothing.
 use mathlib.Core.Path.{_≡_, refl, _∙_, ap}
 use mathlib.Core.Logic.{_↔_, _⊎_, inl, inr}
-use mathlib.Core.Bool.{true, false}
+use mathlib.Core.Bool.{true}
 use mathlib.Core.List.{List, [], _∷_}
 use mathlib.Core.Option.{Option, none, some}
 use Prim.Native.Nat.{ℕ, suc, _+_, _≤_, _<_}
 use native.Mathlib.Omega.{arith}
-use lib.Dec.{eqb, ltb}
+use lib.Dec.{eqb}
 use lib.ListN.{length}
-use borrow.Author.Tests.{eqb-true, eq-eqb, ltb-false, le-ltb}
+use borrow.Author.Tests.{eqb-true, eq-eqb}
 use Rattle.flow.proofs.Booleans.{split}
-use Rattle.lines.specs.Lines.{lines, endsWithLf}
+use Rattle.lines.specs.Lines.{lines}
+use Rattle.lines.specs.Limits.{limitOf, Within}
+use Rattle.lines.proofs.LimitLaws.{within-limit, limit-within}
+use Rattle.reader.specs.Each.{readEach}
+use Rattle.reader.proofs.Each.{refuses, Each, each-only}
 use Rattle.eventline.specs.EventLine.{printLine, clearEvent, readLine, onLine, readEvent}
 use Rattle.eventline.specs.Written.{EventWritten, EventInRange}
 use Rattle.eventline.proofs.LineFormat.{line-format}
 use Rattle.eventline.proofs.EventRanges.{event-range}
-use Rattle.trace.specs.Types.{Refusal, TokenTwice, TokenTooEarly, Event}
+use Rattle.trace.specs.Types.{Refusal, TokenTwice, TokenTooEarly, Limit, Event}
 use Rattle.trace.specs.Search.{lowest}
-use Rattle.trace.specs.TraceText.{twice, tooEarly, refusedAt, checkTokens, onEvent, readLines, onEvents, readTrace}
+use Rattle.trace.specs.TraceText.{twice, tooEarly, refusedAt, checkTokens, readLines, onEvents, withinLimits, readTrace}
 use Rattle.trace.specs.Meaning.{TwiceAt, EarlyAt, LowestLine, printFrom, AllWritten, IsTrace}
 use Rattle.trace.proofs.TokenMeaning.{twice-iff, early-iff, lowest-found, lowest-none}
-
--- a refusal is no value
-refused-not : {A G : Type 0} {r : Refusal} {a : A} → inl r ≡ inr a → G
-refused-not e = let z : _≡_ {A = ℕ} 0 1 = cc in absurd (omega arith)
 
 same-value : {A B : Type 0} {a b : B} → _≡_ {A = A ⊎ B} (inr a) (inr b) → a ≡ b
 same-value e = cc
@@ -35,41 +35,38 @@ unfolding readEvent
 event-only k l e h = go (readLine l) refl h
   where
     go : (r : Option (ℕ × Event)) → readLine l ≡ r → onLine k r ≡ inr e → (k ≤ 255) × EventWritten e × (clearEvent e ≡ true) × (l ≡ printLine k e)
-    go none q u = refused-not u
+    go none q u = refuses u
     go (some r) q u = split (eqb (r .0) k)
         (λ a. split (clearEvent (r .1))
         (λ b. let x : r .1 ≡ e = same-value (rw (a, b) at u) in
         let y : r .0 ≡ k = eqb-true (r .0) k a in
         let f = line-format l (r .0) (r .1) .0 q in
         rw (← x, ← y) (f .0, f .1, b, f .2))
-        (λ b. refused-not (rw (a, b) at u)))
-        (λ a. refused-not (rw a at u))
+        (λ b. refuses (rw (a, b) at u)))
+        (λ a. refuses (rw a at u))
 
 event-reads : (k : ℕ) (e : Event) → k ≤ 255 → EventWritten e → clearEvent e ≡ true → readEvent k (printLine k e) ≡ inr e
 unfolding readEvent
 event-reads k e h w c = rw (line-format (printLine k e) k e .1 (h, w, refl), eq-eqb k k refl, c) refl
 
 -- ---- the lines
-lines-only : (ls : List (List ℕ)) (k : ℕ) (es : List Event) → readLines k ls ≡ inr es → k ≤ 256 → (ls ≡ printFrom k es) × AllWritten es × (k + length es ≤ 256)
-unfolding readLines
-lines-only [] k es h b = let x : [] ≡ es = same-value h in rw (← x) (refl, tt, omega arith)
-lines-only (l ∷ ls) k es h b = go (readEvent k l) refl (readLines (k + 1) ls) refl h (lines-only ls (k + 1))
-  where
-    go : (r : Refusal ⊎ Event) → readEvent k l ≡ r → (x : Refusal ⊎ List Event) → readLines (k + 1) ls ≡ x → onEvent r x ≡ inr es
-        → ((fs : List Event) → readLines (k + 1) ls ≡ inr fs → k + 1 ≤ 256 → (ls ≡ printFrom (k + 1) fs) × AllWritten fs × (k + 1 + length fs ≤ 256))
-        → (l ∷ ls ≡ printFrom k es) × AllWritten es × (k + length es ≤ 256)
-    go (inl r) q x p u ih = refused-not u
-    go (inr e) q (inl r) p u ih = refused-not u
-    go (inr e) q (inr fs) p u ih =
-        let f = event-only k l e q in
-        let m = f .0 in
-        let g = ih fs p (omega arith) in
-        let n = g .2 in
-        let x : e ∷ fs ≡ es = same-value u in
-        rw (← x) (ap {B = List (List ℕ)} (λ y. y ∷ ls) (f .3) ∙ ap (λ y. printLine k e ∷ y) (g .0), ((f .1, f .2), g .1), omega arith)
+-- the line of an event
+abbrev LineOf : ℕ → List ℕ → Event → Type 0
+LineOf k l e = (k ≤ 255) × EventWritten e × (clearEvent e ≡ true) × (l ≡ printLine k e)
+
+lines-only : (k : ℕ) (ls : List (List ℕ)) (es : List Event) → Each LineOf k ls es → k ≤ 256 → (ls ≡ printFrom k es) × AllWritten es × (k + length es ≤ 256)
+lines-only k [] [] h b = (refl, tt, omega arith)
+lines-only k [] (e ∷ es) h b = absurd h
+lines-only k (l ∷ ls) [] h b = absurd h
+lines-only k (l ∷ ls) (e ∷ es) h b =
+    let f = h .0 in
+    let m = f .0 in
+    let g = lines-only (k + 1) ls es (h .1) (omega arith) in
+    let n = g .2 in
+    (ap {B = List (List ℕ)} (λ y. y ∷ ls) (f .3) ∙ ap (λ y. printLine k e ∷ y) (g .0), ((f .1, f .2), g .1), omega arith)
 
 lines-read : (es : List Event) (k : ℕ) → AllWritten es → k + length es ≤ 256 → readLines k (printFrom k es) ≡ inr es
-unfolding readLines
+unfolding readEach
 lines-read [] k w b = refl
 lines-read (e ∷ es) k w b = rw (event-reads k e (omega arith) (w .0 .0) (w .0 .1), lines-read es (k + 1) (w .1) (omega arith)) refl
 
@@ -86,8 +83,8 @@ tokens-only es fs h = go (lowest (twice es) (length es)) refl (lowest (tooEarly 
     go : (x : Option ℕ) → lowest (twice es) (length es) ≡ x → (y : Option ℕ) → lowest (tooEarly es) (length es) ≡ y
         → refusedAt TokenTwice x (refusedAt TokenTooEarly y (inr es)) ≡ inr fs
         → (es ≡ fs) × ((j : ℕ) → j < length es → TwiceAt es j → ⊥) × ((i : ℕ) → i < length es → EarlyAt es i → ⊥)
-    go (some j) p y q u = refused-not u
-    go none p (some i) q u = refused-not u
+    go (some j) p y q u = refuses u
+    go none p (some i) q u = refuses u
     go none p none q u = (same-value u, lowest-none (TwiceAt es) (twice es) (twice-iff es) (length es) p, lowest-none (EarlyAt es) (tooEarly es) (early-iff es) (length es) q)
 
 tokens-pass : (es : List Event) → ((j : ℕ) → j < length es → TwiceAt es j → ⊥) → ((i : ℕ) → i < length es → EarlyAt es i → ⊥) → checkTokens es ≡ inr es
@@ -126,38 +123,38 @@ token-early-line es i h = go (lowest (twice es) (length es)) refl (lowest (tooEa
     go none p none q u = let z : _≡_ {A = ℕ} 0 1 = cc in absurd (omega arith)
 
 -- ---- the text
+lines-accepted : (s : List ℕ) (es : List Event) → Within s → (x : Refusal ⊎ List Event) → readLines 0 (lines s) ≡ x → onEvents x ≡ inr es → IsTrace s es
+lines-accepted s es w (inl r) q u = refuses u
+lines-accepted s es w (inr fs) q u =
+    let t = tokens-only fs es u in
+    let l = lines-only 0 (lines s) fs (each-only readEvent LineOf event-only 0 (lines s) fs q) (omega arith) in
+    let n = l .2 in
+    rw (← t .0) (record {
+      bytes = w .bytes;
+      ended = w .ended;
+      few = omega arith;
+      printed = l .0;
+      written = l .1;
+      once = t .1;
+      inTime = t .2;
+    })
+
 trace-only : (s : List ℕ) (es : List Event) → readTrace s ≡ inr es → IsTrace s es
 unfolding readTrace
-trace-only s es h = split (ltb 65535 (length s))
-    (λ a. refused-not (rw a at h))
-    (λ a. split (endsWithLf s)
-    (λ b. split (ltb 256 (length (lines s)))
-    (λ c. refused-not (rw (a, b, c) at h))
-    (λ c. go a b (readLines 0 (lines s)) refl (rw (a, b, c) at h)))
-    (λ b. refused-not (rw (a, b) at h)))
+trace-only s es h = go (limitOf s) refl h
   where
-    go : ltb 65535 (length s) ≡ false → endsWithLf s ≡ true → (x : Refusal ⊎ List Event) → readLines 0 (lines s) ≡ x → onEvents x ≡ inr es → IsTrace s es
-    go a b (inl r) q u = refused-not u
-    go a b (inr fs) q u =
-        let t = tokens-only fs es u in
-        let l = lines-only (lines s) 0 fs q (omega arith) in
-        let n = l .2 in
-        rw (← t .0) (record {
-          bytes = ltb-false 65535 (length s) a;
-          ended = b;
-          few = omega arith;
-          printed = l .0;
-          written = l .1;
-          once = t .1;
-          inTime = t .2;
-        })
+    go : (x : Limit) → limitOf s ≡ x → withinLimits x (onEvents (readLines 0 (lines s))) ≡ inr es → IsTrace s es
+    go Limit.TooLong p u = refuses u
+    go Limit.Unended p u = refuses u
+    go Limit.TooManyLines p u = refuses u
+    go Limit.Kept p u = lines-accepted s es (limit-within s p) (readLines 0 (lines s)) refl u
 
 trace-reads : (s : List ℕ) (es : List Event) → IsTrace s es → readTrace s ≡ inr es
 unfolding readTrace
 trace-reads s es t =
     let n : length (lines s) ≤ 256 = (let e = ap length (t .printed) ∙ lines-length 0 es in let f = t .few in omega arith) in
     let r : readLines 0 (lines s) ≡ inr es = ap (readLines 0) (t .printed) ∙ lines-read es 0 (t .written) (let f = t .few in omega arith) in
-    rw (le-ltb 65535 (length s) (t .bytes), t .ended, le-ltb 256 (length (lines s)) n, r) (tokens-pass es (t .once) (t .inTime))
+    rw (within-limit s (record { bytes = t .bytes; ended = t .ended; few = n }), r) (tokens-pass es (t .once) (t .inTime))
 
 -- a text is accepted as these events exactly if it is their text
 pub accepted-iff : (s : List ℕ) (es : List Event) → (readTrace s ≡ inr es) ↔ IsTrace s es

@@ -1,16 +1,18 @@
 -- Document 01, "Trace text" and "Refusal table": the whole text, its clauses in the order of the checks.
-use mathlib.Core.Bool.{Bool, _&&_, cond}
-use mathlib.Core.List.{List, [], _∷_}
+use mathlib.Core.Bool.{Bool, _&&_}
+use mathlib.Core.List.{List}
 use mathlib.Core.Logic.{_⊎_, inl, inr}
 use mathlib.Core.Option.{Option, none, some}
-use Prim.Native.Nat.{ℕ, _+_}
-use lib.Dec.{ltb, leb}
+use Prim.Native.Nat.{ℕ}
+use lib.Dec.{leb}
 use lib.ListN.{length}
-use Rattle.lines.specs.Lines.{lines, endsWithLf}
-use Rattle.events.specs.Events.{tokensOf, shares, eventAt, eventsOf}
+use Rattle.lines.specs.Lines.{lines}
+use Rattle.lines.specs.Limits.{limitOf}
+use Rattle.reader.specs.Each.{readEach}
+use Rattle.events.specs.Events.{tokensOf, anyBelow, shares, eventAt, eventsOf}
 use Rattle.eventline.specs.EventLine.{readEvent}
-use Rattle.trace.specs.Types.{Refusal, TraceTooLong, TraceUnended, TraceTooManyLines, TokenTwice, TokenTooEarly, Event, Place, Outcome, TraceRead}
-use Rattle.trace.specs.Search.{anyBelow, lowest}
+use Rattle.trace.specs.Types.{Refusal, TraceTooLong, TraceUnended, TraceTooManyLines, TokenTwice, TokenTooEarly, Limit, Event, Outcome, TraceRead}
+use Rattle.trace.specs.Search.{lowest}
 
 -- the tokens that line i takes in and puts out
 abbrev pub insAt : List Event → ℕ → List ℕ
@@ -42,36 +44,29 @@ checkTokens es =
     refusedAt TokenTwice (lowest (twice es) (length es))
     (refusedAt TokenTooEarly (lowest (tooEarly es) (length es)) (inr es))
 
--- an event before those of the lines behind it; the first refusal stands
-abbrev pub inFront : Event → Refusal ⊎ List Event → Refusal ⊎ List Event
-inFront e (inl r) = inl r
-inFront e (inr es) = inr (e ∷ es)
-
-abbrev pub onEvent : Refusal ⊎ Event → Refusal ⊎ List Event → Refusal ⊎ List Event
-onEvent (inl r) rest = inl r
-onEvent (inr e) rest = inFront e rest
-
--- the lines from line k on, on each 4, 5, 6
-unfoldable pub readLines : ℕ → List (List ℕ) → Refusal ⊎ List Event
-readLines k [] = inr []
-readLines k (l ∷ ls) = onEvent (readEvent k l) (readLines (k + 1) ls)
+-- the lines from line k on, on each 4, 5, 6; the first refusal stands
+abbrev pub readLines : ℕ → List (List ℕ) → Refusal ⊎ List Event
+readLines = readEach readEvent
 
 abbrev pub onEvents : Refusal ⊎ List Event → Refusal ⊎ List Event
 onEvents (inl r) = inl r
 onEvents (inr es) = checkTokens es
 
 -- 1, 2, 3; then the lines from the first; then 7; then 8
+abbrev pub withinLimits : Limit → Refusal ⊎ List Event → Refusal ⊎ List Event
+withinLimits Limit.TooLong rest = inl TraceTooLong
+withinLimits Limit.Unended rest = inl TraceUnended
+withinLimits Limit.TooManyLines rest = inl TraceTooManyLines
+withinLimits Limit.Kept rest = rest
+
 unfoldable pub readTrace : List ℕ → Refusal ⊎ List Event
-readTrace s =
-    cond (ltb 65535 (length s)) (inl TraceTooLong)
-    (cond (endsWithLf s)
-    (cond (ltb 256 (length (lines s))) (inl TraceTooManyLines) (onEvents (readLines 0 (lines s))))
-    (inl TraceUnended))
+readTrace s = withinLimits (limitOf s) (onEvents (readLines 0 (lines s)))
 
 -- ---- what the code's answers say
-abbrev pub asPlace : Place → Option ℕ
-asPlace (Place.At j) = some j
-asPlace Place.Nowhere = none
+-- the first of two outcomes that is a refusal
+abbrev pub firstOf : Outcome → Outcome → Outcome
+firstOf (Outcome.Refused r) other = Outcome.Refused r
+firstOf Outcome.Accepted other = other
 
 abbrev pub asOutcome : Outcome → List Event → Refusal ⊎ List Event
 asOutcome Outcome.Accepted es = inr es

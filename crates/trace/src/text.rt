@@ -3,16 +3,14 @@ use crate::tokens::check_tokens;
 use eventline::EventRead;
 use eventline::event_line;
 use events::Trace;
-use lines::count_lines;
-use lines::ends_with_lf;
-use reader::after_line;
-use reader::line_at;
+use lines::Limit;
 use refusals::Refusal;
 ghost use mathlib.Core.Path.{_≡_};
+ghost use mathlib.Core.Logic.{inl};
 ghost use Prim.Native.Nat.{_≤_};
 ghost use lib.ListN.{length};
 ghost use Rattle.lines.specs.Lines.{lines};
-ghost use Rattle.trace.specs.TraceText.{readLines, readTrace, asTrace};
+ghost use Rattle.trace.specs.TraceText.{readLines, onEvents, readTrace, asTrace};
 
 pub enum Outcome {
     Accepted,
@@ -32,25 +30,24 @@ fn read_lines(text: &[u8]) -> TraceRead
 {
     let mut trace = Trace::empty();
     let mut at: usize = 0;
-    let mut k: usize = 0;
     while at < text.len() {
-        let line = line_at(text, at);
-        let next = after_line(text, at);
+        let line = reader::line_at(text, at);
+        let next = reader::after_line(text, at);
+        let k = trace.len;
         let read = event_line(line, k);
         match read {
-            EventRead::Read(e) => {
-                trace.events[k] = e;
-                trace.len = k + 1;
-                at = next;
-                k = k + 1;
-            }
             EventRead::Refused(r) => {
                 return TraceRead {
                     outcome: Outcome::Refused(r),
                     trace,
                 };
             }
+            EventRead::Read(e) => {
+                trace.events[k] = e;
+                trace.len = k + 1;
+            }
         }
+        at = next;
     }
     TraceRead {
         outcome: Outcome::Accepted,
@@ -58,9 +55,28 @@ fn read_lines(text: &[u8]) -> TraceRead
     }
 }
 
-// The refusal of a text, with no events.
+// The lines, and then the tokens.
+fn read_events(text: &[u8]) -> TraceRead
+    requires { ⌜ length (lines (now text)) ≤ 256 ⌝ }
+    ensures { λ r. ⌜ (asTrace r ≡ onEvents (readLines 0 (lines (now (text .entry))))) × (r .trace .len ≤ 256) ⌝ }
+{
+    let read = read_lines(text);
+    let outcome = read.outcome;
+    match outcome {
+        Outcome::Refused(_) => {
+            return read;
+        }
+        Outcome::Accepted => {
+            let trace = read.trace;
+            let outcome = check_tokens(trace);
+            return TraceRead { outcome, trace };
+        }
+    }
+}
+
+// A text that is refused, with no events.
 fn refused(r: Refusal) -> TraceRead
-    ensures { λ a. ⌜ (a .outcome ≡ Outcome.Refused r) × (a .trace .len ≡ 0) ⌝ }
+    ensures { λ a. ⌜ (asTrace a ≡ inl r) × (a .trace .len ≤ 256) ⌝ }
 {
     let trace = Trace::empty();
     TraceRead {
@@ -73,25 +89,11 @@ fn refused(r: Refusal) -> TraceRead
 pub fn read_trace(text: &[u8]) -> TraceRead
     ensures { λ r. ⌜ (asTrace r ≡ readTrace (now (text .entry))) × (r .trace .len ≤ 256) ⌝ }
 {
-    if 65535 < text.len() {
-        return refused(Refusal::TraceTooLong);
-    }
-    if !ends_with_lf(text) {
-        return refused(Refusal::TraceUnended);
-    }
-    if 256 < count_lines(text) {
-        return refused(Refusal::TraceTooManyLines);
-    }
-    let read = read_lines(text);
-    let outcome = read.outcome;
-    match outcome {
-        Outcome::Refused(_) => {
-            return read;
-        }
-        Outcome::Accepted => {
-            let trace = read.trace;
-            let outcome = check_tokens(trace);
-            return TraceRead { outcome, trace };
-        }
+    let limit = lines::limit_of(text);
+    match limit {
+        Limit::TooLong => refused(Refusal::TraceTooLong),
+        Limit::Unended => refused(Refusal::TraceUnended),
+        Limit::TooManyLines => refused(Refusal::TraceTooManyLines),
+        Limit::Kept => read_events(text),
     }
 }

@@ -4,17 +4,11 @@ use events::Tokens;
 use events::Trace;
 use refusals::Refusal;
 ghost use mathlib.Core.Path.{_≡_};
+ghost use mathlib.Core.Bool.{cond};
 ghost use Prim.Native.Nat.{ℕ, _<_, _≤_};
 ghost use lib.ListN.{getD};
 ghost use Rattle.events.specs.Events.{tokensOf, eventsOf, eventAt, noTokens};
-ghost use Rattle.trace.specs.Search.{lowest};
-ghost use Rattle.trace.specs.TraceText.{putsOut, twice, tooEarly, checkTokens, asPlace, asOutcome};
-
-// The lowest line that a search finds.
-enum Place {
-    At(usize),
-    Nowhere,
-}
+ghost use Rattle.trace.specs.TraceText.{putsOut, checkTokens, firstOf, asOutcome};
 
 // What each line puts out: a small array, so that the searches copy no events.
 fn all_outs(t: Trace) -> [Tokens; 256]
@@ -22,13 +16,7 @@ fn all_outs(t: Trace) -> [Tokens; 256]
     ensures { λ r. ⌜ ((k : ℕ) → k < t .len → getD r k noTokens ≡ eventAt (eventsOf t) k .outs) ⌝ }
 {
     let n = t.len;
-    let none = Tokens {
-        t0: 0,
-        t1: 0,
-        t2: 0,
-        t3: 0,
-        count: 0,
-    };
+    let none = Tokens::none();
     let mut all = [none; 256];
     for k in 0..n {
         let event = t.events[k];
@@ -55,58 +43,43 @@ fn puts_out(all: [Tokens; 256], tokens: Tokens, from: usize, to: usize) -> bool
     found
 }
 
-// The lowest line that puts out a token which an earlier line puts out.
-fn token_twice(t: Trace) -> Place
-    requires { ⌜ t .len ≤ 256 ⌝ }
-    ensures { λ r. ⌜ asPlace r ≡ lowest (twice (eventsOf t)) (t .len) ⌝ }
+// The first of two outcomes that is a refusal.
+fn first_of(a: Outcome, b: Outcome) -> Outcome
+    ensures { λ r. ⌜ r ≡ firstOf a b ⌝ }
 {
-    let n = t.len;
-    let all = all_outs(t);
-    let mut j: usize = 0;
-    while j < n {
-        let next = j + 1;
-        let event = t.events[j];
-        let outs = event.outs;
-        if puts_out(all, outs, 0, j) {
-            return Place::At(j);
-        }
-        j = next;
+    match a {
+        Outcome::Refused(_) => a,
+        Outcome::Accepted => b,
     }
-    Place::Nowhere
 }
 
-// The lowest line that takes in a token which this or a later line puts out.
-fn token_too_early(t: Trace) -> Place
-    requires { ⌜ t .len ≤ 256 ⌝ }
-    ensures { λ r. ⌜ asPlace r ≡ lowest (tooEarly (eventsOf t)) (t .len) ⌝ }
+fn refused_if(found: bool, refusal: Refusal) -> Outcome
+    ensures { λ r. ⌜ r ≡ cond found (Outcome.Refused refusal) Outcome.Accepted ⌝ }
 {
-    let n = t.len;
-    let all = all_outs(t);
-    let mut i: usize = 0;
-    while i < n {
-        let next = i + 1;
-        let event = t.events[i];
-        let ins = event.ins;
-        if puts_out(all, ins, i, n) {
-            return Place::At(i);
-        }
-        i = next;
+    if found {
+        return Outcome::Refused(refusal);
     }
-    Place::Nowhere
+    Outcome::Accepted
 }
 
-// A token twice, then a token too early.
+// The lowest line that puts out a token which an earlier line puts out; then the lowest that takes in a token which this or a later
+// line puts out.
 pub(crate) fn check_tokens(t: Trace) -> Outcome
     requires { ⌜ t .len ≤ 256 ⌝ }
     ensures { λ r. ⌜ asOutcome r (eventsOf t) ≡ checkTokens (eventsOf t) ⌝ }
 {
-    let twice = token_twice(t);
-    let early = token_too_early(t);
-    if let Place::At(j) = twice {
-        return Outcome::Refused(Refusal::TokenTwice(j));
+    let n = t.len;
+    let all = all_outs(t);
+    let mut twice = Outcome::Accepted;
+    let mut early = Outcome::Accepted;
+    for k in 0..n {
+        let event = t.events[k];
+        let outs = event.outs;
+        let ins = event.ins;
+        let twice_here = refused_if(puts_out(all, outs, 0, k), Refusal::TokenTwice(k));
+        let early_here = refused_if(puts_out(all, ins, k, n), Refusal::TokenTooEarly(k));
+        twice = first_of(twice, twice_here);
+        early = first_of(early, early_here);
     }
-    if let Place::At(i) = early {
-        return Outcome::Refused(Refusal::TokenTooEarly(i));
-    }
-    Outcome::Accepted
+    first_of(twice, early)
 }

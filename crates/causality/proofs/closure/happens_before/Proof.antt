@@ -4,9 +4,8 @@ use native.Mathlib.Omega.{arith}
 use mathlib.Core.Path.{_≡_, refl, sym, ap, _∙_}
 use lib.ListN.{length, length-set}
 use borrow.Author.Needs.{needs}
-use Rattle.events.specs.Events.{eventsOf}
+use Rattle.events.specs.Events.{anyBelow, eventsOf}
 use Rattle.events.proofs.TraceLaws.{length-mapped, length-events}
-use Rattle.causality.specs.Causality.{anyBelow}
 use Rattle.causality.specs.Rows.{member, Filled}
 use Rattle.causality.proofs.Chains.{through, row-union}
 use Rattle.causality.proofs.SetLaws.{member-none}

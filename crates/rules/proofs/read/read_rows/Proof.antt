@@ -12,19 +12,19 @@ use Rattle.lines.specs.Lines.{lines}
 use Rattle.reader.proofs.Reading.{Lined, lined, lines-left, gets-on}
 use Rattle.digits.proofs.Readers.{seen}
 use Rattle.rows.proofs.Pass.{length-mapped}
-use Rattle.rules.specs.TableText.{asRow}
-use Rattle.rules.proofs.Loops.{Rest, rest-start, rest-end, rest-refused, rest-read}
+use Rattle.rules.specs.TableText.{readLine, asRow}
+use Rattle.reader.proofs.Each.{Rest, rest-start, rest-end, rest-refused, rest-read}
 use Rattle.rules.proofs.read.read_rows.Statement.{statement}
 use Rattle.rules.proofs.read.read_rows.Tie as tie
 
 abbrev Inv-loop : tie.InvT-loop
-Inv-loop text rows₀ at₀ rows at = (rows .len + length (lines (drop at text)) ≤ 256) × Rest text (take (rows .len) (rows .rows)) (rows .len) at × (length (rows .rows) ≡ 512)
+Inv-loop text rows₀ at₀ rows at = (rows .len + length (lines (drop at text)) ≤ 256) × Rest readLine text (take (rows .len) (rows .rows)) (rows .len) at × (length (rows .rows) ≡ 512)
 
 abbrev μ-loop : tie.MeasureT-loop
 μ-loop text rows₀ at₀ rows at = length text - at
 
 loop-holds : tie.Need-loop-holds Inv-loop μ-loop
-loop-holds c = (omega (arith, c .no-rows .ensures .1, c .before .before .pre), rest-start _ _ _ (c .no-rows .ensures .0) (c .no-rows .ensures .1), search (needs, length-mapped))
+loop-holds c = (omega (arith, c .no-rows .ensures .1, c .before .before .pre), rest-start _ _ _ _ (c .no-rows .ensures .0) (c .no-rows .ensures .1), search (needs, length-mapped))
 
 -- the line at the place, and those after it
 here : (a : tie.After-after-line Inv-loop μ-loop) → Lined (now (a .before .before .before .before .before .before .args .text)) (a .before .before .before .loop .at) (now (a .before .line-at .result)) (a .after-line .result)
@@ -33,7 +33,7 @@ here a = lined _ _ (a .before .before .loop-test .taken) _ (a .before .line-at .
 returns : tie.Need-returns Inv-loop μ-loop
 returns c =
     let a = c .before .before .before .before in
-    (rest-refused _ _ _ _ (a .before .before .before .loop .inv .1) _ _ (here a) _ (seen asRow (c .before .before .before .row-line .ensures) (c .before .read .given .1)), omega arith)
+    (rest-refused _ _ _ _ _ (a .before .before .before .loop .inv .1) _ _ (here a) _ (seen asRow (c .before .before .before .row-line .ensures) (c .before .read .given .1)), omega arith)
 
 mul-row : tie.Need-mul-row Inv-loop μ-loop
 mul-row c = omega (arith, c .before .before .before .before .before .before .before .loop .inv .0)
@@ -60,12 +60,12 @@ loop-again c =
     let more : take (k + 1) (set (m .rows .rows) k r) ≡ take k (m .rows .rows) ++ (r ∷ []) =
     ap (λ j. take j (set (m .rows .rows) k r)) (add-one k) ∙ take-suc-set (m .rows .rows) k r (omega (arith, m .inv .0, m .inv .2, left)) in (
       omega (arith, m .inv .0, left),
-      rw more (rest-read _ _ _ _ (m .inv .1) _ _ (here a) _ (seen asRow (c .before .before .before .row-line .ensures) (c .before .read2 .given .1))),
+      rw more (rest-read _ _ _ _ _ (m .inv .1) _ _ (here a) _ (seen asRow (c .before .before .before .row-line .ensures) (c .before .read2 .given .1))),
       simp length-set (m .inv .2),
     )
 
 returns-2 : tie.Need-returns-2 Inv-loop μ-loop
-returns-2 c = (rest-end _ _ _ _ (c .before .loop .inv .1) (c .loop-test .left), omega (arith, c .before .loop .inv .0))
+returns-2 c = (rest-end _ _ _ _ _ (c .before .loop .inv .1) (c .loop-test .left), omega (arith, c .before .loop .inv .0))
 
 pub read-rows-spec : {M : Type 1} → statement M
 read-rows-spec = tie.close (tie.spec

@@ -37,7 +37,7 @@ all-outs-spec =
     tie.close
     (tie.spec
     Inv-loop
-    μ-loop
+    μ-loop (λ c κs. search needs)
     loop-holds (λ c. omega arith) (λ c. omega arith) (λ c. omega arith) (λ c. omega arith) (λ c. omega arith) (λ c. omega arith)
     loop-again
     returns)

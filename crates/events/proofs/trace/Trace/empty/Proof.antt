@@ -1,4 +1,5 @@
 use mathlib.Core.Path.{refl}
+use borrow.Author.Needs.{needs}
 use Rattle.events.specs.Events.{eventsOf}
 use Rattle.events.proofs.trace.Trace.empty.Statement.{statement}
 use Rattle.events.proofs.trace.Trace.empty.Tie as tie
@@ -8,4 +9,4 @@ unfolding eventsOf
 returns c = (refl, refl)
 
 pub empty-spec : {M : Type 1} → statement M
-empty-spec = tie.close (tie.spec returns)
+empty-spec = tie.close (tie.spec (λ c κs. search needs) returns)

@@ -45,7 +45,7 @@ module _ (f : ℕ → Answer) where
   text-length (suc n) = simp length-append (omega (arith, text-length n, answer-length n (f n)))
 
   -- one line more
-  pub text-more : (n : ℕ) → answersText f (n + 1) ≡ answersText f n ++ printAnswer n (f n)
+  text-more : (n : ℕ) → answersText f (n + 1) ≡ answersText f n ++ printAnswer n (f n)
   unfolding answersText
   text-more n = rw add-one refl
 
@@ -66,12 +66,6 @@ module _ (f : ℕ → Answer) where
 
     pub line-put : {a : Answer} {xs ys zs : List ℕ} → a ≡ f i → Put (answersText f i) 0 xs at ys → Put (printAnswer i a) at ys next zs → Put (answersText f (i + 1)) 0 xs next zs
     line-put q p r = rw (text-more i, ← q) (put-then p r)
-
--- the same answers, the same lines
-pub text-like : (f g : ℕ → Answer) → ((i : ℕ) → f i ≡ g i) → (n : ℕ) → answersText f n ≡ answersText g n
-unfolding answersText
-text-like f g h zero = refl
-text-like f g h (suc n) = rw (text-like f g h n, h n) refl
 
 -- the line of an answer that is not silent
 pub line-of : (i : ℕ) (a : Answer) → isSilent a ≡ false → printAnswer i a ≡ evKey ++ (printNumber i ++ (printItem a ++ lineFeed))

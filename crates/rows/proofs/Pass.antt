@@ -24,7 +24,7 @@ module _ {A : Type 0} where
       ∙ ap (λ (s : List A). s ++ (getD l i d ∷ [])) (sym (take-take i n l (omega arith)))
 
   -- an element put at the end of what is written
-  pub emit : (out rest : List A) (k : ℕ) (y : A) → k < length out → take (k + 1) (set out k y) ++ rest ≡ take k out ++ y ∷ rest
+  emit : (out rest : List A) (k : ℕ) (y : A) → k < length out → take (k + 1) (set out k y) ++ rest ≡ take k out ++ y ∷ rest
   emit out rest k y h =
       ap (λ (j : ℕ). take j (set out k y) ++ rest) (add-one k) ∙ ap (λ (s : List A). s ++ rest) (take-suc-set out k y h)
       ∙ append-snoc (take k out) y rest

@@ -11,7 +11,6 @@ use stepping::step;
 use table::Answer;
 use table::Operation;
 use table::TableOperation;
-ghost use mathlib.Core.Path.{_≡_};
 ghost use mathlib.Core.Bool.{true, cond};
 ghost use Prim.Native.Nat.{_<_, _≤_};
 ghost use lib.ListN.{length};

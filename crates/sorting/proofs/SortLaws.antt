@@ -28,7 +28,7 @@ unfolding anyRow sameSlot
 none-same r [] b = refl
 none-same r (x ∷ xs) b = rw (b .0) (none-same r xs (b .1))
 
-pub found-any : (r : Row) (rs : List Row) → SortedRows rs → found r rs ≡ anyRow (sameSlot r) rs
+found-any : (r : Row) (rs : List Row) → SortedRows rs → found r rs ≡ anyRow (sameSlot r) rs
 unfolding found anyRow sameSlot
 found-any r [] s = refl
 found-any r (x ∷ xs) s = go (rowOrder r x) refl (found-any r xs (s .1))

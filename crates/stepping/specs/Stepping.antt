@@ -1,5 +1,5 @@
 -- Document 01, "What an order of events does", on rows: what an event leaves and answers. That it is what is said under "Flow table"
--- of its own switch's table, and that all other tables stay, is proved in proofs/Stepping.antt.
+-- of its own switch's table, and that all other tables stay, is proved in proofs/Steps.antt.
 use mathlib.Core.Bool.{not, cond}
 use mathlib.Core.List.{List}
 use Prim.Native.Nat.{ℕ}

@@ -1,7 +1,6 @@
 -- The outer invariant: the first i rows are in order, and with them the rest of the lines sorts as all do. The second: the search for
 -- line i's place. The third: the rows from the place on move up.
 use mathlib.Core.Path.{_≡_, refl, sym, ap, _∙_}
-use mathlib.Core.Bool.{cond}
 use mathlib.Core.Logic.{inr}
 use Prim.Native.Nat.{_+_, _-_, _≤_}
 use native.Mathlib.Omega.{arith}

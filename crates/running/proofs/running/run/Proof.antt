@@ -1,12 +1,11 @@
 -- The outer invariant is a run's. The second: the search for a row's place. The third: the rows from the place on move up.
 use Prim.Native.Nat.{_-_, _<_}
 use native.Mathlib.Omega.{arith}
-use mathlib.Core.Path.{_≡_, sym, ap, _∙_, subst}
+use mathlib.Core.Path.{_≡_, ap, _∙_, subst}
 use lib.ListN.{length, getD, take, length-set}
 use borrow.Author.Needs.{needs}
 use Rattle.events.specs.Events.{eventsOf}
 use Rattle.events.proofs.TraceLaws.{length-mapped}
-use Rattle.rows.specs.Rows.{rowsOf}
 use Rattle.stepping.specs.Stepping.{stepRows, replyRows}
 use Rattle.searching.proofs.Searches.{Searched, search-start, search-less, search-turn, search-end}
 use Rattle.searching.proofs.Shifts.{Shifting, bounds, shift-start, shift-turn, shift-end}

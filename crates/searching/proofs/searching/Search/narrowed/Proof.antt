@@ -1,6 +1,5 @@
-use mathlib.Core.Path.{refl, sym, _∙_}
+use mathlib.Core.Path.{refl}
 use borrow.Author.Needs.{needs}
-use Rattle.rows.proofs.Pass.{by-arm}
 use Rattle.searching.specs.Searching.{narrowedBy}
 use Rattle.searching.proofs.searching.Search.narrowed.Statement.{statement}
 use Rattle.searching.proofs.searching.Search.narrowed.Tie as tie

@@ -6,7 +6,7 @@ use mathlib.Core.Option.{Option, none, some}
 use Prim.Native.Nat.{ℕ, _+_}
 use lib.ListN.{length, drop}
 use lib.Seq.{drop-drop}
-use Rattle.digits.specs.Reading.{Reader, startsWith, wordOr}
+use Rattle.digits.specs.Reading.{startsWith, wordOr}
 use Rattle.digits.specs.Format.{Format}
 use Rattle.digits.proofs.Readers.{nothing, same-value, same-place, on-cond}
 use Rattle.digits.proofs.Keys.{starts-key}

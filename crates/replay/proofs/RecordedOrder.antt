@@ -9,7 +9,7 @@ use lib.ListN.{length, getD, take}
 use lib.Seq.{ext-getD, getD-take, length-take-le}
 use Rattle.lines.specs.Lines.{newlines}
 use Rattle.lines.proofs.Lines.{lines-count}
-use Rattle.orders.specs.Orders.{from, has}
+use Rattle.orders.specs.Orders.{from}
 use Rattle.pairs.proofs.Theorems.{list-is-orders-listed}
 use Rattle.trace.specs.TraceText.{readTrace}
 use Rattle.trace.proofs.Accepted.{accepted-iff, lines-length}

@@ -10,7 +10,7 @@ use lib.ListN.{length, getElem?}
 use Rattle.reader.proofs.Each.{refuses, accepts, Each, each-length, each-only, each-reads, each-refused}
 use Rattle.digits.proofs.Readers.{nothing}
 use Rattle.fields.specs.Written.{clearEntry}
-use Rattle.rules.specs.Types.{Refusal, TablesAddressBit, KeyTwice, Row}
+use Rattle.rules.specs.Types.{TablesAddressBit, KeyTwice, Row}
 use Rattle.rules.specs.TableText.{printRow, readRow, checkRow, readLine, readRows, RowInRange}
 use Rattle.rules.proofs.RowFormat.{row-format, row-range}
 

@@ -1,14 +1,13 @@
 -- The normal form of a table text, and what refusal 16 means.
 use Prim.Native.Nat.{ℕ, zero, suc, _<_}
-use mathlib.Core.Bool.{true, false, not, true≢false}
+use mathlib.Core.Bool.{true, false, true≢false}
 use mathlib.Core.List.{List, [], _∷_, map, List·Memᴰ, List·Memᴰ·head, List·Memᴰ·tail}
 use mathlib.Core.Logic.{_↔_, _⊎_, inl, inr}
 use mathlib.Core.Option.{some, Option·some-injective}
 use mathlib.Core.Path.{_≡_, refl, sym, _∙_, ap, subst}
 use native.Mathlib.Omega.{arith}
-use lib.Dec.{ltb}
-use lib.ListN.{length, getD, getElem?, length-map}
-use Rattle.digits.proofs.Readers.{nothing, on-cond}
+use lib.ListN.{getD, getElem?, length-map}
+use Rattle.digits.proofs.Readers.{nothing}
 use Rattle.lines.specs.Lines.{lines, newlines, endsWithLf}
 use Rattle.lines.proofs.Lines.{lines-plain, lines-unlines, unlines-ends}
 use Rattle.flow.proofs.Orders.{equal≢less}

@@ -11,7 +11,7 @@ use borrow.Author.Tests.{le-leb, lt-leb, eqb-true, eqb-false}
 use lib.Dec.{eqb, leb}
 use lib.ListN.{length, getD, set}
 use lib.Seq.{getD-set-same, getD-set-other}
-use Rattle.events.specs.Events.{tokensOf, anyBelow, shares, eventsOf, eventAt, noEvent, noTokens}
+use Rattle.events.specs.Events.{tokensOf, shares, eventsOf, eventAt, noEvent, noTokens}
 use Rattle.events.proofs.Searches.{any-same, any-none}
 use Rattle.events.proofs.TraceLaws.{event-at, length-events}
 use Rattle.trace.specs.Types.{Refusal, TokenTwice, TokenTooEarly, Event, Tokens, Trace, Outcome}

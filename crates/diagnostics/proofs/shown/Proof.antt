@@ -2,8 +2,6 @@ use Rattle.diagnostics.proofs.Laws.{shown-small, shown-large}
 use borrow.Author.Needs.{needs}
 use Rattle.diagnostics.proofs.shown.Statement.{statement}
 use Rattle.diagnostics.proofs.shown.Tie as tie
-use Rattle.diagnostics.proofs.shown.Reads as reads
-use Rattle.diagnostics.proofs.shown.Lts as lts
 
 returns : tie.Need-returns
 returns c = shown-small _ (c .if1 .taken)

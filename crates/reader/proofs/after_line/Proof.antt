@@ -1,7 +1,7 @@
 -- `reader::after_line` meets its contract: a walk of its MIR, by hand. The reader is made in a local and passed to `next`, and the position is read from the one that `next` returns.
 -- In a local of a body MIR erases the lifetime of the struct's type, so the value that `next` returns is shown to have the type at `erased`: what the struct owns does not say the lifetime's name.
 -- Assumes nothing.
-use Rattle.reader.proofs.Walking.{_≡_, refl, sym, ap, subst, _∙_, ℕ, _≤_, _<_, _^_, List, [], _∷_, Holds, length, drop, URA, fullShare, named, erased, w64, Val, WT, hasTy, vint, SProp, ent, emp, via, fst∗, snd∗, exE, id⊢, Lft, Share, fat, Memory, Routine, Heap, Calls, Loops, WpFn, Tables, Atoms, sem, Fun, fact, givenOf, tables, Given, ‵, raw, _⊛_, ⋆, some, later, _$_, _∵_, !, qed, by, move, drops, rewrite, use1, split, pick, fjoin, suffices, frame, await, done, whole, sub, look-in, agg, look, init, forget, stop, fld, from, load, of-opd, and-then, no-more, assigns, land, returns, enter, alloc1, alloc0, params1, pass1, pass0, free1, free0, FmC, fmOf, WpFn-mono, owns, Is, shows, uint-vals, uint-tells, uint-makes, u8, usize, RefT, NamedLft, now, plain, slice-vals, shr-slice-tells, shr-slice-lawful, only, owned, peeks, heard, nothing, Contract, Triple, calls-at, onEntry, Meets, tripleOf, entered, cited, says, Stays, stay-none, stay-none-slice, walkOf, goes-none, goes-none-slice, ends-at, walked, walk-meets, yes, ensured, lasts, afterLine, left, LineReader, tablesOf, B, D, L, Text, textVal, passed, Token, made, to-made, OwnText, put-together}
+use Rattle.reader.proofs.Walking.{_≡_, refl, sym, ap, subst, _∙_, ℕ, _≤_, _<_, _^_, List, [], _∷_, Holds, length, drop, URA, fullShare, named, erased, w64, Val, WT, hasTy, vint, SProp, ent, emp, via, fst∗, snd∗, exE, id⊢, Lft, Share, fat, Memory, Routine, Heap, Calls, Loops, WpFn, Tables, Atoms, sem, Fun, fact, givenOf, tables, Given, ‵, raw, _⊛_, ⋆, some, later, _$_, _∵_, !, qed, by, move, drops, rewrite, use1, split, pick, fjoin, suffices, frame, await, done, whole, sub, look-in, agg, look, init, forget, stop, fld, from, load, of-opd, and-then, no-more, assigns, land, returns, enter, alloc1, alloc0, params1, pass1, pass0, free1, free0, FmC, fmOf, WpFn-mono, Is, shows, uint-vals, uint-tells, uint-makes, u8, usize, RefT, NamedLft, now, plain, slice-vals, shr-slice-tells, shr-slice-lawful, only, owned, peeks, heard, nothing, Contract, Triple, calls-at, onEntry, Meets, tripleOf, entered, cited, says, Stays, stay-none, stay-none-slice, walkOf, goes-none, goes-none-slice, ends-at, walked, walk-meets, yes, ensured, lasts, afterLine, left, LineReader, tablesOf, B, D, L, Text, textVal, passed, Token, made, to-made, OwnText, put-together}
 use denote.Struct.Laws as LL
 use Rattle.reader.proofs.LineReader as T
 use Rattle.reader.proofs.LineReader.Laws as T′

@@ -1,8 +1,7 @@
 -- `reader::next` meets its contract: a walk of its MIR, by hand. The struct is taken apart, and `past_line` is called on the text and the position.
 -- All that the proof knows of `past_line` is that it meets its contract. Assumes nothing.
-use Rattle.reader.proofs.Walking.{_≡_, refl, ap, ℕ, _≤_, _<_, _^_, [], _∷_, Holds, length, drop, URA, fullShare, named, w64, tyInt, Val, WT, hasTy, SProp, ent, emp, via, fst∗, snd∗, exE, id⊢, Lft, Share, fat, Memory, Routine, Heap, Calls, Loops, WpFn, Tables, Atoms, sem, Fun, fact, givenOf, tables, Given, ‵, raw, _⊛_, ⋆, some, later, _$_, _∵_, !, qed, by, move, drops, rewrite, use1, split, pick, fjoin, suffices, frame, await, whole, sub, look-in, agg, look, init, forget, stop, fld, from, load, of-opd, and-then, no-more, assigns, land, returns, enter, alloc1, alloc0, params1, pass1, pass0, free1, free0, FmC, fmOf, WpFn-mono, owns, Is, shows, uint-makes, uint-lawful, usize, now, only, owned, peeks, heard, nothing, own-put, Contract, Triple, calls-at, onEntry, Meets, tripleOf, entered, cited, says, Stays, stay-none, walkOf, goes-none, ends-at, walked, walk-meets, yes, ensured, lasts, afterLine, left, LineReader, tablesOf, B, D, L, Token, Own, to, twice, apart}
+use Rattle.reader.proofs.Walking.{_≡_, refl, ap, ℕ, _≤_, _<_, _^_, [], _∷_, Holds, length, drop, URA, fullShare, named, w64, tyInt, Val, WT, hasTy, SProp, ent, emp, via, fst∗, snd∗, exE, id⊢, Lft, Share, fat, Memory, Routine, Heap, Calls, Loops, WpFn, Tables, Atoms, sem, Fun, fact, givenOf, tables, Given, ‵, raw, _⊛_, ⋆, some, later, _$_, _∵_, !, qed, by, move, drops, rewrite, use1, split, pick, fjoin, suffices, frame, await, whole, sub, look-in, agg, look, init, forget, stop, fld, from, load, of-opd, and-then, no-more, assigns, land, returns, enter, alloc1, alloc0, params1, pass1, pass0, free1, free0, FmC, fmOf, WpFn-mono, Is, shows, uint-makes, uint-lawful, usize, now, only, owned, peeks, heard, nothing, own-put, Contract, Triple, calls-at, onEntry, Meets, tripleOf, entered, cited, says, Stays, stay-none, walkOf, goes-none, ends-at, walked, walk-meets, yes, ensured, lasts, afterLine, left, LineReader, tablesOf, B, D, L, Token, Own, to, twice, apart}
 use denote.Struct.Laws as LL
-use Rattle.reader.proofs.LineReader as T
 use Rattle.reader.proofs.LineReader.Laws as T′
 use Rattle.reader.proofs.past_line as called
 use Rattle.reader.proofs.past_line.Symbol as callee

@@ -1,4 +1,3 @@
-use mathlib.Core.Path.{sym, _∙_}
 use lib.Dec.{lit<}
 use borrow.Author.Needs.{needs}
 use Rattle.digits.specs.Number.{asNumber, asHex}

@@ -42,7 +42,7 @@ event-follows : Follows printEvent
 unfolding printEvent
 event-follows f rest e = space-ends _
 
-pub numbered-format : Format (λ (p : ℕ × Event). (p .0 ≤ 255) × EventWritten (p .1)) (λ p. printLine (p .0) (p .1)) readNumbered
+numbered-format : Format (λ (p : ℕ × Event). (p .0 ≤ 255) × EventWritten (p .1)) (λ p. printLine (p .0) (p .1)) readNumbered
 unfolding printLine readNumbered
 numbered-format = both-format event-follows (keyed-format evKey (number-format 255 (omega arith))) items-format
 

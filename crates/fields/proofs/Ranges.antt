@@ -7,7 +7,7 @@ use Rattle.flow.specs.Entries.{KeyInRange, EntryInRange}
 use Rattle.fields.specs.Types.{Prefix, Match, Key, Entry}
 use Rattle.fields.specs.Written.{PrefixWritten, MatchWritten, KeyWritten, EntryWritten, clearKey, clearEntry}
 
-pub prefix-range : (p : Prefix) → (PrefixWritten p × (prefixClear p ≡ true)) ↔ PrefixInRange p
+prefix-range : (p : Prefix) → (PrefixWritten p × (prefixClear p ≡ true)) ↔ PrefixInRange p
 prefix-range p = (
   λ (w, c). record { value = w .value; length = w .length; clear = c },
   λ r. (record { value = r .value; length = r .length }, r .clear),

@@ -18,11 +18,11 @@ All P [] = Unit {0}
 All P (y ∷ l) = P y × All P l
 
 -- a number put in before the first that is not smaller; sorting by that
-abbrev pub arrange : ℕ → List ℕ → List ℕ
+abbrev arrange : ℕ → List ℕ → List ℕ
 arrange x [] = x ∷ []
 arrange x (y ∷ l) = cond (ltb y x) (y ∷ arrange x l) (x ∷ y ∷ l)
 
-abbrev pub sort : List ℕ → List ℕ
+abbrev sort : List ℕ → List ℕ
 sort [] = []
 sort (x ∷ o) = arrange x (sort o)
 
@@ -78,7 +78,7 @@ module _ {S : Type 0} {A : Type 0} (step : ℕ → S → S) (reply : ℕ → S �
       go true e ih = agrees-trans (swapped y x l s g (ltb-true y x e) (k .0 (ltb-true y x e))) (agrees-cons y ih)
       go false e ih = record { states = refl; replies = λ i. refl }
 
-  pub sorted-agrees : (o : List ℕ) → Kept o → (s : S) → Good s → Agrees o (sort o) s
+  sorted-agrees : (o : List ℕ) → Kept o → (s : S) → Good s → Agrees o (sort o) s
   sorted-agrees [] k s g = record { states = refl; replies = λ i. refl }
   sorted-agrees (x ∷ o) k s g = agrees-trans (agrees-cons x (sorted-agrees o (k .1) (step x s) (good x s g)))
       (moved x (sort o) s g (all-sort (λ y. y < x → Independent y x) o (k .0)))
@@ -138,7 +138,7 @@ from-last : (b n : ℕ) → from b n ++ ((b + n) ∷ []) ≡ from b (suc n)
 from-last b zero = let e : b + 0 ≡ b = omega arith in rw e refl
 from-last b (suc n) = let e : b + suc n ≡ suc b + n = omega arith in rw e (ap {B = List ℕ} (λ l. b ∷ l) (from-last (suc b) n))
 
-pub sort-order : (n : ℕ) (o : List ℕ) → IsOrderOf n o → sort o ≡ from 0 n
+sort-order : (n : ℕ) (o : List ℕ) → IsOrderOf n o → sort o ≡ from 0 n
 sort-order zero [] p = refl
 sort-order zero (x ∷ o) p = let e = p .size in absurd (omega arith)
 sort-order (suc n) o p =

@@ -22,7 +22,7 @@ event-in-range (e ∷ es) w zero l = event-range e (w .0 .0) (w .0 .1)
 event-in-range (e ∷ es) w (suc k) l = event-in-range es (w .1) k (omega arith)
 
 -- what the events of an accepted trace do to a table is in range
-pub accepted-in-range : (s : List ℕ) (es : List Event) → readTrace s ≡ inr es → EventsInRange es
+accepted-in-range : (s : List ℕ) (es : List Event) → readTrace s ≡ inr es → EventsInRange es
 accepted-in-range s es h k l = event-in-range es (accepted-iff s es .0 h .written) k l .effect
 
 -- THE list of an accepted trace text: events i and j stand in it exactly if they race

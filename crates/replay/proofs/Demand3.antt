@@ -62,7 +62,7 @@ module _ (s : List ℕ) (es : List Event) (trace : readTrace s ≡ inr es) where
     room-enough o e a b = enough s t o (textsOf es o rs) a b (only-rooms s t o es rs trace tables e a b)
 
     -- of an allowed order only the buffers can be refused, and the texts are those of the recorded order
-    pub recorded-texts : (o : List ℕ) → Allowed es o → (a b : ℕ) → replayed s t o a b ≡ fitting (textsOf es (recorded es) rs) a b
+    recorded-texts : (o : List ℕ) → Allowed es o → (a b : ℕ) → replayed s t o a b ≡ fitting (textsOf es (recorded es) rs) a b
     recorded-texts o allowed a b =
         only-rooms s t o es rs trace tables (allowed-accepted es o allowed) a b
         ∙ ap (λ x. fitting x a b) (same-texts es o allowed rs (accepted-sorted t rs tables))

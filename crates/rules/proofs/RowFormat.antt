@@ -20,7 +20,7 @@ use Rattle.fields.specs.Written.{clearEntry}
 use Rattle.rules.specs.Types.{Row}
 use Rattle.rules.specs.TableText.{switchKey, printRow, rowReader, wholeRow, readRow, RowWritten, RowInRange}
 
-pub reader-format : Format RowWritten printRow rowReader
+reader-format : Format RowWritten printRow rowReader
 unfolding printRow rowReader
 reader-format =
     along (λ (r : Row). (r .switch, r .entry)) _

@@ -53,11 +53,7 @@ put-rest {w} {xs} {rest} {at} {from} p q =
     }
 
 -- ---- the text of rows
-pub normal-cons : (r : Row) (rs : List Row) → normalText (r ∷ rs) ≡ printRow r ++ 10 ∷ normalText rs
-unfolding normalText unlines
-normal-cons r rs = refl
-
-pub normal-snoc : (rs : List Row) (r : Row) → normalText (rs ++ (r ∷ [])) ≡ normalText rs ++ (printRow r ++ (10 ∷ []))
+normal-snoc : (rs : List Row) (r : Row) → normalText (rs ++ (r ∷ [])) ≡ normalText rs ++ (printRow r ++ (10 ∷ []))
 unfolding normalText unlines
 normal-snoc [] r = refl
 normal-snoc (x ∷ rs) r = ap (λ (l : List ℕ). printRow x ++ 10 ∷ l) (normal-snoc rs r) ∙ sym (append-assoc (printRow x) (10 ∷ normalText rs) (printRow r ++ (10 ∷ [])))

@@ -146,7 +146,7 @@ early-iff es o p = (is-lowest, λ r. go (firstEarly es o) refl r)
 
 module _ (es : List Event) (o : List ℕ) (order : IsOrderOf (length es) o) where
   -- no position is early exactly if each event stands after all that happen before it
-  pub early-none-iff : (firstEarly es o ≡ none) ↔ KeepsOrder es o
+  early-none-iff : (firstEarly es o ≡ none) ↔ KeepsOrder es o
   early-none-iff = (λ h i j c. keeps h i j c, λ k. kept-none (before es) 0 o (λ i j e. clear k i j e))
     where
       keeps : firstEarly es o ≡ none → (i j : ℕ) → Chain (step es) i j → stands i j o ≡ true

@@ -44,7 +44,7 @@ past-sorted a (x ∷ xs) (suc m) d h o s =
 -- switch and key
 pub record Searched (a : Row) (l : List Row) (n : ℕ) (s : Search) : Type 0 where
   pub fits : n ≤ length l
-  pub narrows : s .low ≤ s .at
+  narrows : s .low ≤ s .at
   pub within : s .at + bit (s .same) ≤ n
   pub past : Past a (take n l) (s .low)
   pub puts : insertRow a (drop (s .at) (take n l)) ≡ a ∷ drop (s .at + bit (s .same)) (take n l)

@@ -146,7 +146,7 @@ pub record Ordered (lines : List Row) (k : ℕ) (rs : List Row) : Type 0 where
   pub forth : (x : Row) → List·Memᴰ x rs → List·Memᴰ x (take k lines)
   pub back : (x : Row) → List·Memᴰ x (take k lines) → List·Memᴰ x rs
   pub once : (j : ℕ) → j < k → standsEarlier lines j ≡ false
-  pub slots : (x : Row) → anyRow (sameSlot x) rs ≡ anyRow (sameSlot x) (take k lines)
+  slots : (x : Row) → anyRow (sameSlot x) rs ≡ anyRow (sameSlot x) (take k lines)
 
 -- what a sort of the lines answers: the lowest line whose switch and key stand on an earlier line; or the lines' rows in order, and
 -- there is no such line

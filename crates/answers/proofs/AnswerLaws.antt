@@ -12,11 +12,11 @@ use lib.Seq.{sets, take-all, length-take-le}
 use Rattle.digits.specs.Print.{printNumber, Put}
 use Rattle.digits.proofs.Writing.{print-length, put-then}
 use Rattle.putfields.proofs.Lengths.{action-length}
-use Rattle.answers.specs.Types.{Answer, Silent, Miss, Hit, Done}
+use Rattle.answers.specs.Types.{Answer}
 use Rattle.answers.specs.Answers.{noAnswer, keptAt, evKey, lineFeed, printItem, isSilent, printAnswer, answersText}
 
 -- no answers yet
-pub none-kept : (n i : ℕ) → keptAt (replicate n noAnswer) i ≡ Silent
+pub none-kept : (n i : ℕ) → keptAt (replicate n noAnswer) i ≡ Answer.Silent
 none-kept zero i = refl
 none-kept (suc n) zero = refl
 none-kept (suc n) (suc i) = none-kept n i
@@ -24,11 +24,11 @@ none-kept (suc n) (suc i) = none-kept n i
 -- ---- how long
 pub item-length : (a : Answer) → length (printItem a) ≤ 38
 unfolding printItem
-item-length Silent = omega arith
-item-length Miss = omega arith
-item-length (Hit priority count a) = simp length-append (omega (arith, print-length priority, print-length count, action-length a))
-item-length (Done true) = omega arith
-item-length (Done false) = omega arith
+item-length Answer.Silent = omega arith
+item-length Answer.Miss = omega arith
+item-length (Answer.Hit priority count a) = simp length-append (omega (arith, print-length priority, print-length count, action-length a))
+item-length (Answer.Done true) = omega arith
+item-length (Answer.Done false) = omega arith
 
 pub answer-length : (i : ℕ) (a : Answer) → length (printAnswer i a) ≤ 52
 unfolding printAnswer

@@ -5,14 +5,14 @@ use Prim.Native.Nat.{ℕ, zero, suc}
 use lib.ListN.{getD}
 use Rattle.digits.specs.Print.{printNumber}
 use Rattle.fields.specs.Print.{printAction}
-use Rattle.answers.specs.Types.{TableOperation, Lookup, Add, AddChecked, ModifyStrict, Modify, DeleteStrict, Delete, Operation, Other, Barrier, Message, OnTable, Answer, Silent, Miss, Hit, Done, Kept}
+use Rattle.answers.specs.Types.{TableOperation, Operation, Answer, Kept}
 
 -- the answers that an array keeps
 abbrev pub kept : Answer → Kept
 kept a = record { answer = a }
 
 abbrev pub noAnswer : Kept
-noAnswer = kept Silent
+noAnswer = kept Answer.Silent
 
 abbrev pub keptAt : List Kept → ℕ → Answer
 keptAt ks i = getD ks i noAnswer .answer
@@ -45,32 +45,32 @@ lineFeed = 10 ∷ []
 
 -- only `pkt` and `addc` events have an answer
 abbrev pub answersAs : TableOperation → Bool
-answersAs (Lookup p) = true
-answersAs (Add e) = false
-answersAs (AddChecked e) = true
-answersAs (ModifyStrict e) = false
-answersAs (Modify e) = false
-answersAs (DeleteStrict k) = false
-answersAs (Delete m) = false
+answersAs (TableOperation.Packet p) = true
+answersAs (TableOperation.Add e) = false
+answersAs (TableOperation.AddChecked e) = true
+answersAs (TableOperation.ModifyStrict e) = false
+answersAs (TableOperation.Modify e) = false
+answersAs (TableOperation.DeleteStrict k) = false
+answersAs (TableOperation.Delete m) = false
 
 abbrev pub hasAnswer : Operation → Bool
-hasAnswer Other = false
-hasAnswer (Barrier w) = false
-hasAnswer (Message w) = false
-hasAnswer (OnTable w o) = answersAs o
+hasAnswer Operation.Other = false
+hasAnswer (Operation.Barrier w) = false
+hasAnswer (Operation.Message w) = false
+hasAnswer (Operation.Table w o) = answersAs o
 
 -- the item of an answer, with its space in front: a hit is its priority, how many entries fit at it, and the action
 unfoldable pub printItem : Answer → List ℕ
-printItem Silent = []
-printItem Miss = missItem
-printItem (Hit priority count a) = hitKey ++ (printNumber priority ++ (comma ++ (printNumber count ++ (comma ++ printAction a))))
-printItem (Done b) = cond b yesItem noItem
+printItem Answer.Silent = []
+printItem Answer.Miss = missItem
+printItem (Answer.Hit priority count a) = hitKey ++ (printNumber priority ++ (comma ++ (printNumber count ++ (comma ++ printAction a))))
+printItem (Answer.Done b) = cond b yesItem noItem
 
 abbrev pub isSilent : Answer → Bool
-isSilent Silent = true
-isSilent Miss = false
-isSilent (Hit priority count a) = false
-isSilent (Done b) = false
+isSilent Answer.Silent = true
+isSilent Answer.Miss = false
+isSilent (Answer.Hit priority count a) = false
+isSilent (Answer.Done b) = false
 
 -- the answer line of event i, with its LF; nothing for an event without an answer
 unfoldable pub printAnswer : ℕ → Answer → List ℕ

@@ -9,7 +9,6 @@ ghost use mathlib.Core.Path.{_≡_};
 ghost use Prim.Native.Nat.{_≤_, _<_, _^_};
 ghost use lib.ListN.{length};
 ghost use Rattle.digits.specs.Print.{Put};
-ghost use Rattle.answers.specs.Types.{Hit};
 ghost use Rattle.answers.specs.Answers.{keptAt, isSilent, printItem, printAnswer, answersText};
 
 fn is_silent(a: Answer) -> bool
@@ -26,7 +25,7 @@ fn is_silent(a: Answer) -> bool
 // ` hit=10,1,p2`: the priority, how many entries fit at it, the action.
 fn put_hit(out: &mut [u8], at: usize, priority: u16, count: u16, action: Action) -> usize
     requires { ⌜ at < 2 ^ 30 ⌝ }
-    ensures { λ r. ⌜ Put (printItem (Hit priority count action)) at (now (out .entry)) r (now (out .exit)) ⌝ }
+    ensures { λ r. ⌜ Put (printItem (Answer.Hit priority count action)) at (now (out .entry)) r (now (out .exit)) ⌝ }
 {
     let a = put_bytes(out, at, b" hit=");
     let b = put_number(out, a, priority as u32);

@@ -3,7 +3,6 @@ use table::Answer;
 ghost use mathlib.Core.Path.{_≡_};
 ghost use Prim.Native.Nat.{ℕ};
 ghost use lib.ListN.{length};
-ghost use Rattle.answers.specs.Types.{Silent};
 ghost use Rattle.answers.specs.Answers.{keptAt};
 
 // An answer, silent where none was given.
@@ -12,7 +11,7 @@ pub struct Kept {
 }
 
 pub fn no_answers() -> [Kept; 256]
-    ensures { λ r. ⌜ (length r ≡ 256) × ((i : ℕ) → keptAt r i ≡ Silent) ⌝ }
+    ensures { λ r. ⌜ (length r ≡ 256) × ((i : ℕ) → keptAt r i ≡ Answer.Silent) ⌝ }
 {
     let silent = Kept {
         answer: Answer::Silent,

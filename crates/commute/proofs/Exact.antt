@@ -16,7 +16,7 @@ use Rattle.flow.proofs.Entries.{same-eq, same-self, same-sym, differ-of, action
 use Rattle.table.specs.FlowTable.{Table, entry, get, insert, removeIf, assignIf, anyOf, fitting, best, Effect, pkt, add, addc, modn, dels, deln, idle, after, answer, inside, clash, admits}
 use Rattle.table.proofs.TableLaws.{get-insert, get-assign, any-assign, none-some}
 use Rattle.table.proofs.Effects.{addc-yes, modn-yes, modn-no}
-use Rattle.commute.specs.Types.{Match, Packet, Action, Drop, Key, Entry, Done, Hit, Miss}
+use Rattle.commute.specs.Types.{Match, Packet, Action, Key, Entry, Answer}
 use Rattle.commute.specs.Commuting.{Agree, add-add, add-dels, add-deln, add-modn, addc-modn, modn-dels, modn-modn, commutes, one, at, witness}
 use Rattle.commute.proofs.Sound.{inside-self, clash-self, agree-sym}
 
@@ -25,13 +25,13 @@ action-differ : (a b : Action) → sameAction a b ≡ false → a ≡ b → ⊥
 action-differ a b e q = true≢false (sym (action-self b) ∙ ap (λ c. sameAction c b) (sym q) ∙ e)
 
 -- answers told apart
-Hit-Miss : {m n : ℕ} {a : Action} → Hit m n a ≡ Miss → ⊥
+Hit-Miss : {m n : ℕ} {a : Action} → Answer.Hit m n a ≡ Answer.Miss → ⊥
 Hit-Miss {m} {n} {a} e = let z : _≡_ {A = ℕ} 0 1 = cc in omega arith
 
-yes-no : Done true ≡ Done false → ⊥
+yes-no : Answer.Done true ≡ Answer.Done false → ⊥
 yes-no e = let z : true ≡ false = cc in true≢false z
 
-best-one : (e : Entry) → best (e ∷ []) ≡ Hit (max (e .key .priority) 0) 1 (e .action)
+best-one : (e : Entry) → best (e ∷ []) ≡ Answer.Hit (max (e .key .priority) 0) 1 (e .action)
 unfolding best
 best-one e = let q : eqb (e .key .priority) (max (e .key .priority) 0) ≡ true = eq-eqb (e .key .priority) (max (e .key .priority) 0) (omega arith) in rw q refl
 
@@ -155,20 +155,20 @@ module _ (j : Key) (a : Action) where
 
   addc-dels-tell : (k : Key) → clash j k ≡ true → Agree (addc j a) (dels k) (one k) → ⊥
   unfolding after
-  addc-dels-tell k h g = addc-one j a (entry k Drop) h (sym (g .first) ∙ ap (answer (addc j a)) (gone (sameKey k) k Drop (same-self k)))
+  addc-dels-tell k h g = addc-one j a (entry k Action.Drop) h (sym (g .first) ∙ ap (answer (addc j a)) (gone (sameKey k) k Action.Drop (same-self k)))
 
   addc-deln-tell : (m : Match) → overlaps (j .pattern) m ≡ true → Agree (addc j a) (deln m) (one (at (j .priority) (meet (j .pattern) m))) → ⊥
   unfolding after
   addc-deln-tell m h g =
       let q : Key = at (j .priority) (meet (j .pattern) m) in
       let c : clash j q ≡ true = and-intro (eq-eqb (j .priority) (j .priority) refl) (overlap-sym match-field (q .pattern) (j .pattern) (within-overlap match-field (q .pattern) (j .pattern) (meet-left match-field (j .pattern) m h))) in
-      addc-one j a (entry q Drop) c (sym (g .first) ∙ ap (answer (addc j a)) (gone (inside m) q Drop (meet-right match-field (j .pattern) m h)))
+      addc-one j a (entry q Action.Drop) c (sym (g .first) ∙ ap (answer (addc j a)) (gone (inside m) q Action.Drop (meet-right match-field (j .pattern) m h)))
 
   -- a modn beside a removal of the only entry within it
   modn-gone-tell : (p : Key → Bool) (q : Key) → inside (j .pattern) q ≡ true → p q ≡ true → removeIf p (after (modn j a) (one q)) ≡ after (modn j a) (removeIf p (one q)) → ⊥
   modn-gone-tell p q u v e =
       let l : removeIf p (after (modn j a) (one q)) ≡ [] = ap (removeIf p) (modn-yes j a (one q) (rw u refl)) ∙ rw v refl in
-      let r : after (modn j a) (removeIf p (one q)) ≡ insert j a [] = ap (after (modn j a)) (gone p q Drop v) ∙ modn-no j a [] refl in
+      let r : after (modn j a) (removeIf p (one q)) ≡ insert j a [] = ap (after (modn j a)) (gone p q Action.Drop v) ∙ modn-no j a [] refl in
       tell j (sym l ∙ e ∙ r) refl (get-here j a []) none-some
 
   modn-dels-tell : (k : Key) → modn-dels j k ≡ false → Agree (modn j a) (dels k) (one k) → ⊥
@@ -194,12 +194,12 @@ module _ (p : Packet) where
 
   pkt-dels-tell : (k : Key) → admits p k ≡ true → Agree (pkt p) (dels k) (one k) → ⊥
   unfolding after
-  pkt-dels-tell k h g = pkt-one p (entry k Drop) h (sym (g .first) ∙ ap (answer (pkt p)) (gone (sameKey k) k Drop (same-self k)))
+  pkt-dels-tell k h g = pkt-one p (entry k Action.Drop) h (sym (g .first) ∙ ap (answer (pkt p)) (gone (sameKey k) k Action.Drop (same-self k)))
 
   pkt-deln-tell : (m : Match) → fits m p ≡ true → Agree (pkt p) (deln m) (one (at (0) (m))) → ⊥
   unfolding after
-  pkt-deln-tell m h g = pkt-one p (entry (at (0) (m)) Drop) h
-      (sym (g .first) ∙ ap (answer (pkt p)) (gone (inside m) (at (0) (m)) Drop (within-self match-field m)))
+  pkt-deln-tell m h g = pkt-one p (entry (at (0) (m)) Action.Drop) h
+      (sym (g .first) ∙ ap (answer (pkt p)) (gone (inside m) (at (0) (m)) Action.Drop (within-self match-field m)))
 
 addc-add-tell : (j : Key) (a : Action) (k : Key) (b : Action) → clash j k ≡ true → Agree (addc j a) (add k b) [] → ⊥
 unfolding after

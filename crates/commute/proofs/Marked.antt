@@ -10,33 +10,33 @@ use Rattle.flow.specs.Entries.{orderOf, thenBy, rank, matchOrder, keyOrder, sam
 use Rattle.flow.proofs.PrefixField.{prefix-clear-means, prefix-fits-leading}
 use Rattle.flow.proofs.Leading.{overlaps-by-bits, within-by-bits, other-destination}
 use Rattle.table.specs.FlowTable.{pkt, add, addc, modn, dels, deln}
-use Rattle.commute.specs.Types.{Match, Packet, Any, Is, Action, Port}
+use Rattle.commute.specs.Types.{Match, Packet, Action, Exact}
 use Rattle.commute.specs.Commuting.{at, commutes}
 
 -- A: dst 0a000000/8; B: dst 0a010000/16; D: dport 80; else any
 abbrev pub A : Match
-A = record { port = Any; src = record { value = 0; length = 0 }; dst = record { value = 0x0a000000; length = 8 }; proto = Any; sport = Any; dport = Any }
+A = record { port = Exact.Any; src = record { value = 0; length = 0 }; dst = record { value = 0x0a000000; length = 8 }; proto = Exact.Any; sport = Exact.Any; dport = Exact.Any }
 
 abbrev pub B : Match
-B = record { port = Any; src = record { value = 0; length = 0 }; dst = record { value = 0x0a010000; length = 16 }; proto = Any; sport = Any; dport = Any }
+B = record { port = Exact.Any; src = record { value = 0; length = 0 }; dst = record { value = 0x0a010000; length = 16 }; proto = Exact.Any; sport = Exact.Any; dport = Exact.Any }
 
 abbrev pub D : Match
-D = record { port = Any; src = record { value = 0; length = 0 }; dst = record { value = 0; length = 0 }; proto = Any; sport = Any; dport = Is 80 }
+D = record { port = Exact.Any; src = record { value = 0; length = 0 }; dst = record { value = 0; length = 0 }; proto = Exact.Any; sport = Exact.Any; dport = Exact.Is 80 }
 
 abbrev pub verdicts : ℕ → ℕ → Action → Action → Packet → List Bool
 verdicts n m a b p =
     -- commute
-    commutes (add (at 5 A) (Port 1)) (add (at 5 A) (Port 1))
+    commutes (add (at 5 A) (Action.Port 1)) (add (at 5 A) (Action.Port 1))
     ∷ commutes (add (at 5 A) a) (addc (at 6 B) b)
-    ∷ commutes (modn (at 5 A) (Port 1)) (modn (at 5 D) (Port 1))
+    ∷ commutes (modn (at 5 A) (Action.Port 1)) (modn (at 5 D) (Action.Port 1))
     ∷ commutes (deln A) (dels (at 5 B))
     ∷ commutes (deln A) (add (at 5 D) a)
     ∷ commutes (pkt p) (add (at n A) a)
     -- don't
-    ∷ commutes (add (at 5 A) (Port 1)) (add (at 5 A) (Port 2))
+    ∷ commutes (add (at 5 A) (Action.Port 1)) (add (at 5 A) (Action.Port 2))
     ∷ commutes (add (at 5 A) a) (addc (at 5 B) b)
-    ∷ commutes (modn (at 5 A) (Port 1)) (modn (at 5 B) (Port 1))
-    ∷ commutes (modn (at n A) (Port 1)) (modn (at m D) (Port 2))
+    ∷ commutes (modn (at 5 A) (Action.Port 1)) (modn (at 5 B) (Action.Port 1))
+    ∷ commutes (modn (at n A) (Action.Port 1)) (modn (at m D) (Action.Port 2))
     ∷ commutes (deln A) (addc (at 5 D) a)
     ∷ commutes (modn (at n A) a) (dels (at 5 B))
     ∷ commutes (addc (at 5 A) a) (addc (at 5 A) b)

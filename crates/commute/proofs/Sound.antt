@@ -13,7 +13,7 @@ use Rattle.flow.proofs.Entries.{same-eq, differ, differ-of, action-eq}
 use Rattle.table.specs.FlowTable.{Table, Sorted, get, insert, removeIf, assignIf, anyOf, overwrite, fitting, best, Effect, pkt, add, addc, modn, dels, deln, idle, after, answer, inside, clash, admits}
 use Rattle.table.proofs.TableLaws.{sorted-insert, sorted-remove, sorted-assign, get-insert, get-remove, get-assign, any-insert, any-assign, any-remove, any-none, table-ext}
 use Rattle.table.proofs.Effects.{addc-no, addc-yes, modn-yes, modn-no, sorted-after}
-use Rattle.commute.specs.Types.{Match, Packet, Action, Key, Done}
+use Rattle.commute.specs.Types.{Match, Packet, Action, Key, Answer}
 use Rattle.commute.specs.Commuting.{Agree, add-add, add-dels, add-deln, add-modn, addc-modn, modn-dels, modn-modn, commutes}
 
 -- the three changes of a table, two at a time
@@ -132,14 +132,14 @@ addc-agree j a w t e g = split (anyOf (clash j) t) refused added
     refused : anyOf (clash j) t ≡ true → Agree (addc j a) w t
     refused u = record {
       tables = ap (after w) (addc-no j a t u) ∙ sym (addc-no j a (after w t) (e ∙ u));
-      first = ap (λ b. Done (not b)) e;
+      first = ap (λ b. Answer.Done (not b)) e;
       second = ap (answer w) (addc-no j a t u);
     }
 
     added : anyOf (clash j) t ≡ false → Agree (addc j a) w t
     added u = record {
       tables = ap (after w) (addc-yes j a t u) ∙ g u .tables ∙ sym (addc-yes j a (after w t) (e ∙ u));
-      first = ap (λ b. Done (not b)) e;
+      first = ap (λ b. Answer.Done (not b)) e;
       second = ap (answer w) (addc-yes j a t u) ∙ g u .second;
     }
 

@@ -12,7 +12,7 @@ use Rattle.flow.specs.Entries.{sameAction, KeyInRange}
 use Rattle.flow.proofs.Booleans.{split, both-ways}
 use Rattle.flow.proofs.Matches.{match-field}
 use Rattle.table.specs.FlowTable.{Table, Sorted, TableInRange, Effect, pkt, add, addc, modn, dels, deln, idle, effectOf, tableEffect}
-use Rattle.commute.specs.Types.{Match, Key, Entry, Other, Barrier, Message, ModifyStrict, Add}
+use Rattle.commute.specs.Types.{Match, Key, Entry, Operation, TableOperation}
 use Rattle.commute.specs.Commuting.{Commute, commutes, one, at, witness, Told, EffectInRange}
 use Rattle.commute.proofs.Sound.{commutes-sound, agree-sym}
 use Rattle.commute.proofs.Exact.{commutes-exact}
@@ -105,15 +105,15 @@ unfolding commutes
 idle-commutes w = refl
 
 -- so do `bar`, `msg` and `oth`
-pub other-commutes : (w : Effect) → commutes (effectOf Other) w ≡ true
+pub other-commutes : (w : Effect) → commutes (effectOf Operation.Other) w ≡ true
 other-commutes w = idle-commutes w
 
-pub barrier-commutes : (s : ℕ) (w : Effect) → commutes (effectOf (Barrier s)) w ≡ true
+pub barrier-commutes : (s : ℕ) (w : Effect) → commutes (effectOf (Operation.Barrier s)) w ≡ true
 barrier-commutes s w = idle-commutes w
 
-pub message-commutes : (s : ℕ) (w : Effect) → commutes (effectOf (Message s)) w ≡ true
+pub message-commutes : (s : ℕ) (w : Effect) → commutes (effectOf (Operation.Message s)) w ≡ true
 message-commutes s w = idle-commutes w
 
 -- `mods` reads as `add`
-pub mods-is-add : (e : Entry) → tableEffect (ModifyStrict e) ≡ tableEffect (Add e)
+pub mods-is-add : (e : Entry) → tableEffect (TableOperation.ModifyStrict e) ≡ tableEffect (TableOperation.Add e)
 mods-is-add e = refl

@@ -8,7 +8,7 @@ use lib.ListN.{length}
 use Rattle.flow.specs.Matches.{fits, overlaps, within, meet, MatchInRange, PacketInRange}
 use Rattle.flow.specs.Entries.{sameKey, sameAction, KeyInRange, ActionInRange}
 use Rattle.table.specs.FlowTable.{Table, entry, Sorted, TableInRange, Effect, pkt, add, addc, modn, dels, deln, idle, after, answer, clash}
-use Rattle.commute.specs.Types.{Match, Packet, Action, Drop, Key}
+use Rattle.commute.specs.Types.{Match, Packet, Action, Key}
 
 -- on the table t both orders leave the same table and give each event the same answer
 pub record Agree (v w : Effect) (t : Table) : Type 0 where
@@ -112,7 +112,7 @@ commutes (deln m) (deln n) = true
 
 -- ---- a table of at most one entry that tells the two orders apart, where the test says no
 abbrev pub one : Key → Table
-one k = entry k Drop ∷ []
+one k = entry k Action.Drop ∷ []
 
 abbrev pub at : ℕ → Match → Key
 at n m = record { priority = n; pattern = m }

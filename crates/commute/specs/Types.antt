@@ -1,14 +1,10 @@
 -- The types that this crate's definitions speak of, under one name each.
 pub use Rattle.flow.specs.declared.matching.Match.{Match}
 pub use Rattle.flow.specs.declared.matching.Packet.{Packet}
-pub use Rattle.flow.specs.declared.exact.Exact.the-variants.{Any, Is}
 pub use Rattle.flow.specs.declared.action.Action.{Action}
-pub use Rattle.flow.specs.declared.action.Action.the-variants.{Drop, Controller, Port}
 pub use Rattle.flow.specs.declared.entry.Key.{Key}
 pub use Rattle.flow.specs.declared.entry.Entry.{Entry}
 pub use Rattle.table.specs.declared.operation.TableOperation.{TableOperation}
-pub use Rattle.table.specs.declared.operation.TableOperation.the-variants.{Packet as Lookup, Add, AddChecked, ModifyStrict, Modify, DeleteStrict, Delete}
 pub use Rattle.table.specs.declared.operation.Operation.{Operation}
-pub use Rattle.table.specs.declared.operation.Operation.the-variants.{Other, Barrier, Message, Table as OnTable}
 pub use Rattle.table.specs.declared.operation.Answer.{Answer}
-pub use Rattle.table.specs.declared.operation.Answer.the-variants.{Silent, Miss, Hit, Done}
+pub use Rattle.flow.specs.declared.exact.Exact.{Exact}

@@ -5,7 +5,7 @@ use Prim.Native.Nat.{ℕ}
 use lib.Dec.{ltb}
 use Rattle.digits.specs.Print.{printNumber}
 use Rattle.refusals.specs.Refusals.{numberOf, placeOf, sourceOf, lineOf}
-use Rattle.diagnostics.specs.Types.{Refusal, Source, Neither, InTrace, InTables}
+use Rattle.diagnostics.specs.Types.{Refusal, Source}
 
 -- a key and its number
 unfoldable pub item : List ℕ → ℕ → List ℕ
@@ -24,9 +24,9 @@ refusalLine r =
 
 -- the refused line, where there is one
 abbrev pub lineText : Source → List ℕ → List ℕ
-lineText Neither line = []
-lineText InTrace line = line ++ (10 ∷ [])
-lineText InTables line = line ++ (10 ∷ [])
+lineText Source.Neither line = []
+lineText Source.Trace line = line ++ (10 ∷ [])
+lineText Source.Tables line = line ++ (10 ∷ [])
 
 -- number and place; then, where the place is a line, the refused line of the trace or of the tables
 unfoldable pub refusedText : List ℕ → List ℕ → Refusal → List ℕ

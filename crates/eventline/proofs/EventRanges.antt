@@ -5,7 +5,7 @@ use native.Mathlib.Omega.{arith}
 use Rattle.fields.proofs.Ranges.{match-range, key-range, entry-range}
 use Rattle.table.specs.FlowTable.{tableEffect}
 use Rattle.commute.specs.Commuting.{EffectInRange}
-use Rattle.eventline.specs.Types.{Entry, TableOperation, Lookup, Add, AddChecked, ModifyStrict, Modify, DeleteStrict, Delete, Operation, Other, Barrier, Message, OnTable, Event}
+use Rattle.eventline.specs.Types.{Entry, TableOperation, Operation, Event}
 use Rattle.flow.specs.Entries.{KeyInRange, ActionInRange}
 use Rattle.fields.specs.Written.{EntryWritten, clearEntry}
 use Rattle.eventline.specs.EventLine.{clearTable, clearOperation, clearEvent}
@@ -15,20 +15,20 @@ entry-in : (e : Entry) → EntryWritten e → clearEntry e ≡ true → KeyInRan
 entry-in e w c = let r = entry-range e .0 (w, c) in (r .key, r .action)
 
 table-in : (o : TableOperation) → TableWritten o → clearTable o ≡ true → EffectInRange (tableEffect o)
-table-in (Lookup p) w c = w
-table-in (Add e) w c = entry-in e w c
-table-in (AddChecked e) w c = entry-in e w c
-table-in (ModifyStrict e) w c = entry-in e w c
-table-in (Modify e) w c = entry-in e w c
-table-in (DeleteStrict k) w c = key-range k .0 (w, c)
-table-in (Delete m) w c = match-range m .0 (w, c)
+table-in (TableOperation.Packet p) w c = w
+table-in (TableOperation.Add e) w c = entry-in e w c
+table-in (TableOperation.AddChecked e) w c = entry-in e w c
+table-in (TableOperation.ModifyStrict e) w c = entry-in e w c
+table-in (TableOperation.Modify e) w c = entry-in e w c
+table-in (TableOperation.DeleteStrict k) w c = key-range k .0 (w, c)
+table-in (TableOperation.Delete m) w c = match-range m .0 (w, c)
 
 pub event-range : (e : Event) → EventWritten e → clearEvent e ≡ true → EventInRange e
 event-range e w c = go (e .operation) (w .operation) c
   where
     go : (o : Operation) → OperationWritten o → clearOperation o ≡ true
         → EventInRange (record { ins = e .ins; outs = e .outs; operation = o })
-    go Other w c = record { effect = tt; switch = omega arith }
-    go (Barrier s) w c = record { effect = tt; switch = omega arith }
-    go (Message s) w c = record { effect = tt; switch = omega arith }
-    go (OnTable s o) w c = record { effect = table-in o (w .1) c; switch = omega (arith, w .0) }
+    go Operation.Other w c = record { effect = tt; switch = omega arith }
+    go (Operation.Barrier s) w c = record { effect = tt; switch = omega arith }
+    go (Operation.Message s) w c = record { effect = tt; switch = omega arith }
+    go (Operation.Table s o) w c = record { effect = table-in o (w .1) c; switch = omega (arith, w .0) }

@@ -10,8 +10,7 @@ use Rattle.digits.specs.Reading.{andThen, mapped, keyed, both}
 use Rattle.digits.specs.Number.{readNumber}
 use Rattle.digits.proofs.Readers.{twice}
 use Rattle.eventline.proofs.words.Word.{the-type}
-use Rattle.eventline.specs.declared.words.Word.the-variants as W
-use Rattle.eventline.specs.Types.{Refusal, TraceMalformed, Operation, Other, Event, Word}
+use Rattle.eventline.specs.Types.{Refusal, Operation, Event, Word}
 use Rattle.eventline.specs.Words.{readWord}
 use Rattle.eventline.specs.EventLine.{evKey, doKey, swKey, readSwitch, readOn, readOperation, readParts, eventOf, readBehind, readItems, readNumbered, atEnd, readLine, onLine, readEvent}
 
@@ -21,19 +20,19 @@ by-word w s at e h = h ∙ ap (λ u. readOn u w s at) (sym e)
 
 -- for all words but `oth` the switch is read, and then the word's own fields
 module _ (s : List ℕ) (at : ℕ) where
-  pub no-switch : {u : Word} → u ≡ W.Other → some (Other, at) ≡ readOperation u s at
+  pub no-switch : {u : Word} → u ≡ Word.Other → some (Operation.Other, at) ≡ readOperation u s at
   unfolding readOperation
   no-switch e = rw e refl
 
   behind-switch : (u : Word) → OneOf (1 ∷ 2 ∷ 3 ∷ 4 ∷ 5 ∷ 6 ∷ []) (tagOf the-type u) → andThen readSwitch (readOn u) s at ≡ readOperation u s at
   unfolding readOperation
-  behind-switch W.Other h = absurd (miss (1 ∷ 2 ∷ 3 ∷ 4 ∷ 5 ∷ 6 ∷ []) 0 tt h)
-  behind-switch W.Barrier h = refl
-  behind-switch W.Message h = refl
-  behind-switch W.Packet h = refl
-  behind-switch (W.Write a) h = refl
-  behind-switch W.DeleteStrict h = refl
-  behind-switch W.Delete h = refl
+  behind-switch Word.Other h = absurd (miss (1 ∷ 2 ∷ 3 ∷ 4 ∷ 5 ∷ 6 ∷ []) 0 tt h)
+  behind-switch Word.Barrier h = refl
+  behind-switch Word.Message h = refl
+  behind-switch Word.Packet h = refl
+  behind-switch (Word.Write a) h = refl
+  behind-switch Word.DeleteStrict h = refl
+  behind-switch Word.Delete h = refl
 
   -- where the word's number is not that of `oth`
   module _ (u : Word) (h : OneOf (1 ∷ 2 ∷ 3 ∷ 4 ∷ 5 ∷ 6 ∷ []) (tagOf the-type u)) where
@@ -47,12 +46,12 @@ module _ (s : List ℕ) (at : ℕ) where
 
 -- the answer for line k
 module _ (k : ℕ) (l : List ℕ) where
-  pub bad-number : keyed evKey (readNumber 255) l 0 ≡ none → inl (TraceMalformed k) ≡ readEvent k l
+  pub bad-number : keyed evKey (readNumber 255) l 0 ≡ none → inl (Refusal.TraceMalformed k) ≡ readEvent k l
   unfolding readEvent readLine readNumbered both andThen
   bad-number e = rw e refl
 
   module _ {n a : ℕ} (e₁ : keyed evKey (readNumber 255) l 0 ≡ some (n, a)) where
-    pub bad-word : keyed doKey readWord l a ≡ none → inl (TraceMalformed k) ≡ readEvent k l
+    pub bad-word : keyed doKey readWord l a ≡ none → inl (Refusal.TraceMalformed k) ≡ readEvent k l
     unfolding readEvent readLine readNumbered readItems both andThen mapped
     bad-word e = rw (e₁, e) refl
 

@@ -17,20 +17,19 @@ use Rattle.fields.specs.Read.{readMatch, readPacket, readKey, readEntry}
 use Rattle.fields.specs.Written.{MatchWritten, KeyWritten, EntryWritten}
 use Rattle.fields.proofs.MatchFormats.{match-follows, match-format, packet-follows, packet-format}
 use Rattle.fields.proofs.EntryFormats.{key-follows, key-format, entry-follows, entry-format}
-use Rattle.eventline.specs.declared.words.Word.the-variants as W
-use Rattle.eventline.specs.Types.{Match, Packet, Key, Entry, Lookup, Add, AddChecked, ModifyStrict, Modify, DeleteStrict, Delete, Operation, Other, Barrier, Message, OnTable, Word, Write}
+use Rattle.eventline.specs.Types.{Match, Packet, Key, Entry, Operation, Word, Write, TableOperation}
 use Rattle.eventline.specs.EventLine.{swKey, printSwitch, printOperation, readSwitch, writeOf, readOn, readOperation, wordOf}
 use Rattle.eventline.specs.Written.{OperationWritten}
 
 -- ---- the fields of each word
 abbrev Fields : Word → Type 0
-Fields W.Other = Unit {0}
-Fields W.Barrier = ℕ
-Fields W.Message = ℕ
-Fields W.Packet = ℕ × Packet
-Fields (W.Write a) = ℕ × Entry
-Fields W.DeleteStrict = ℕ × Key
-Fields W.Delete = ℕ × Match
+Fields Word.Other = Unit {0}
+Fields Word.Barrier = ℕ
+Fields Word.Message = ℕ
+Fields Word.Packet = ℕ × Packet
+Fields (Word.Write a) = ℕ × Entry
+Fields Word.DeleteStrict = ℕ × Key
+Fields Word.Delete = ℕ × Match
 
 -- a switch in range, and what stands behind it
 abbrev Behind : {A : Type 0} → (A → Type 0) → ℕ × A → Type 0
@@ -40,34 +39,34 @@ abbrev printBoth : {A : Type 0} → (A → List ℕ) → ℕ × A → List ℕ
 printBoth print p = printSwitch (p .0) ++ print (p .1)
 
 abbrev FieldsWritten : (w : Word) → Fields w → Type 0
-FieldsWritten W.Other = λ x. Unit {0}
-FieldsWritten W.Barrier = λ w. w ≤ 15
-FieldsWritten W.Message = λ w. w ≤ 15
-FieldsWritten W.Packet = Behind PacketInRange
-FieldsWritten (W.Write a) = Behind EntryWritten
-FieldsWritten W.DeleteStrict = Behind KeyWritten
-FieldsWritten W.Delete = Behind MatchWritten
+FieldsWritten Word.Other = λ x. Unit {0}
+FieldsWritten Word.Barrier = λ w. w ≤ 15
+FieldsWritten Word.Message = λ w. w ≤ 15
+FieldsWritten Word.Packet = Behind PacketInRange
+FieldsWritten (Word.Write a) = Behind EntryWritten
+FieldsWritten Word.DeleteStrict = Behind KeyWritten
+FieldsWritten Word.Delete = Behind MatchWritten
 
 abbrev printFields : (w : Word) → Fields w → List ℕ
-printFields W.Other = λ x. []
-printFields W.Barrier = printSwitch
-printFields W.Message = printSwitch
-printFields W.Packet = printBoth printPacket
-printFields (W.Write a) = printBoth printEntry
-printFields W.DeleteStrict = printBoth printKey
-printFields W.Delete = printBoth printMatch
+printFields Word.Other = λ x. []
+printFields Word.Barrier = printSwitch
+printFields Word.Message = printSwitch
+printFields Word.Packet = printBoth printPacket
+printFields (Word.Write a) = printBoth printEntry
+printFields Word.DeleteStrict = printBoth printKey
+printFields Word.Delete = printBoth printMatch
 
 abbrev readNothing : Reader (Unit {0})
 readNothing s at = some (tt, at)
 
 abbrev readFields : (w : Word) → Reader (Fields w)
-readFields W.Other = readNothing
-readFields W.Barrier = readSwitch
-readFields W.Message = readSwitch
-readFields W.Packet = both readSwitch readPacket
-readFields (W.Write a) = both readSwitch readEntry
-readFields W.DeleteStrict = both readSwitch readKey
-readFields W.Delete = both readSwitch readMatch
+readFields Word.Other = readNothing
+readFields Word.Barrier = readSwitch
+readFields Word.Message = readSwitch
+readFields Word.Packet = both readSwitch readPacket
+readFields (Word.Write a) = both readSwitch readEntry
+readFields Word.DeleteStrict = both readSwitch readKey
+readFields Word.Delete = both readSwitch readMatch
 
 switch-format : Format (λ w. w ≤ 15) printSwitch readSwitch
 unfolding readSwitch
@@ -80,62 +79,62 @@ nothing-format = record {
 }
 
 fields-format : (w : Word) → Format (FieldsWritten w) (printFields w) (readFields w)
-fields-format W.Other = nothing-format
-fields-format W.Barrier = switch-format
-fields-format W.Message = switch-format
-fields-format W.Packet = both-format packet-follows switch-format packet-format
-fields-format (W.Write a) = both-format entry-follows switch-format entry-format
-fields-format W.DeleteStrict = both-format key-follows switch-format key-format
-fields-format W.Delete = both-format match-follows switch-format match-format
+fields-format Word.Other = nothing-format
+fields-format Word.Barrier = switch-format
+fields-format Word.Message = switch-format
+fields-format Word.Packet = both-format packet-follows switch-format packet-format
+fields-format (Word.Write a) = both-format entry-follows switch-format entry-format
+fields-format Word.DeleteStrict = both-format key-follows switch-format key-format
+fields-format Word.Delete = both-format match-follows switch-format match-format
 
 -- ---- the operation of a word's fields, and the fields of an operation
 abbrev make : (w : Word) → Fields w → Operation
-make W.Other = λ x. Other
-make W.Barrier = Barrier
-make W.Message = Message
-make W.Packet = λ (w, p). OnTable w (Lookup p)
-make (W.Write a) = λ (w, e). OnTable w (writeOf a e)
-make W.DeleteStrict = λ (w, k). OnTable w (DeleteStrict k)
-make W.Delete = λ (w, m). OnTable w (Delete m)
+make Word.Other = λ x. Operation.Other
+make Word.Barrier = Operation.Barrier
+make Word.Message = Operation.Message
+make Word.Packet = λ (w, p). Operation.Table w (TableOperation.Packet p)
+make (Word.Write a) = λ (w, e). Operation.Table w (writeOf a e)
+make Word.DeleteStrict = λ (w, k). Operation.Table w (TableOperation.DeleteStrict k)
+make Word.Delete = λ (w, m). Operation.Table w (TableOperation.Delete m)
 
 -- an operation is made of fields of its word, in range if it is
 made : (o : Operation) → OperationWritten o → (x : Fields (wordOf o)) × FieldsWritten (wordOf o) x × (make (wordOf o) x ≡ o)
-made Other o = (tt, tt, refl)
-made (Barrier w) o = (w, o, refl)
-made (Message w) o = (w, o, refl)
-made (OnTable w (Lookup p)) o = ((w, p), o, refl)
-made (OnTable w (Add e)) o = ((w, e), o, refl)
-made (OnTable w (AddChecked e)) o = ((w, e), o, refl)
-made (OnTable w (ModifyStrict e)) o = ((w, e), o, refl)
-made (OnTable w (Modify e)) o = ((w, e), o, refl)
-made (OnTable w (DeleteStrict k)) o = ((w, k), o, refl)
-made (OnTable w (Delete m)) o = ((w, m), o, refl)
+made Operation.Other o = (tt, tt, refl)
+made (Operation.Barrier w) o = (w, o, refl)
+made (Operation.Message w) o = (w, o, refl)
+made (Operation.Table w (TableOperation.Packet p)) o = ((w, p), o, refl)
+made (Operation.Table w (TableOperation.Add e)) o = ((w, e), o, refl)
+made (Operation.Table w (TableOperation.AddChecked e)) o = ((w, e), o, refl)
+made (Operation.Table w (TableOperation.ModifyStrict e)) o = ((w, e), o, refl)
+made (Operation.Table w (TableOperation.Modify e)) o = ((w, e), o, refl)
+made (Operation.Table w (TableOperation.DeleteStrict k)) o = ((w, k), o, refl)
+made (Operation.Table w (TableOperation.Delete m)) o = ((w, m), o, refl)
 
 -- what fields make has their word, their text and their range
 makes : (w : Word) (x : Fields w) → FieldsWritten w x → OperationWritten (make w x) × (wordOf (make w x) ≡ w)
-makes W.Other x o = (tt, refl)
-makes W.Barrier x o = (o, refl)
-makes W.Message x o = (o, refl)
-makes W.Packet x o = (o, refl)
-makes (W.Write Write.Add) x o = (o, refl)
-makes (W.Write Write.AddChecked) x o = (o, refl)
-makes (W.Write Write.ModifyStrict) x o = (o, refl)
-makes (W.Write Write.Modify) x o = (o, refl)
-makes W.DeleteStrict x o = (o, refl)
-makes W.Delete x o = (o, refl)
+makes Word.Other x o = (tt, refl)
+makes Word.Barrier x o = (o, refl)
+makes Word.Message x o = (o, refl)
+makes Word.Packet x o = (o, refl)
+makes (Word.Write Write.Add) x o = (o, refl)
+makes (Word.Write Write.AddChecked) x o = (o, refl)
+makes (Word.Write Write.ModifyStrict) x o = (o, refl)
+makes (Word.Write Write.Modify) x o = (o, refl)
+makes Word.DeleteStrict x o = (o, refl)
+makes Word.Delete x o = (o, refl)
 
 prints : (w : Word) (x : Fields w) → printOperation (make w x) ≡ printFields w x
 unfolding printOperation
-prints W.Other x = refl
-prints W.Barrier x = refl
-prints W.Message x = refl
-prints W.Packet x = refl
-prints (W.Write Write.Add) x = refl
-prints (W.Write Write.AddChecked) x = refl
-prints (W.Write Write.ModifyStrict) x = refl
-prints (W.Write Write.Modify) x = refl
-prints W.DeleteStrict x = refl
-prints W.Delete x = refl
+prints Word.Other x = refl
+prints Word.Barrier x = refl
+prints Word.Message x = refl
+prints Word.Packet x = refl
+prints (Word.Write Write.Add) x = refl
+prints (Word.Write Write.AddChecked) x = refl
+prints (Word.Write Write.ModifyStrict) x = refl
+prints (Word.Write Write.Modify) x = refl
+prints Word.DeleteStrict x = refl
+prints Word.Delete x = refl
 
 -- a switch, and then what a value behind it makes
 behind-switch : {A : Type 0} (f : ℕ → A → Operation) (read : Reader A) (s : List ℕ) (at : ℕ)
@@ -150,13 +149,13 @@ behind-switch f read s at = go (readSwitch s at)
 
 reads-fields : (w : Word) (s : List ℕ) (at : ℕ) → readOperation w s at ≡ mapped (make w) (readFields w) s at
 unfolding readOperation readOn andThen mapped
-reads-fields W.Other s at = refl
-reads-fields W.Barrier s at = refl
-reads-fields W.Message s at = refl
-reads-fields W.Packet s at = behind-switch (λ w p. OnTable w (Lookup p)) readPacket s at
-reads-fields (W.Write a) s at = behind-switch (λ w e. OnTable w (writeOf a e)) readEntry s at
-reads-fields W.DeleteStrict s at = behind-switch (λ w k. OnTable w (DeleteStrict k)) readKey s at
-reads-fields W.Delete s at = behind-switch (λ w m. OnTable w (Delete m)) readMatch s at
+reads-fields Word.Other s at = refl
+reads-fields Word.Barrier s at = refl
+reads-fields Word.Message s at = refl
+reads-fields Word.Packet s at = behind-switch (λ w p. Operation.Table w (TableOperation.Packet p)) readPacket s at
+reads-fields (Word.Write a) s at = behind-switch (λ w e. Operation.Table w (writeOf a e)) readEntry s at
+reads-fields Word.DeleteStrict s at = behind-switch (λ w k. Operation.Table w (TableOperation.DeleteStrict k)) readKey s at
+reads-fields Word.Delete s at = behind-switch (λ w m. Operation.Table w (TableOperation.Delete m)) readMatch s at
 
 -- ---- the operations of a word
 fields-reads : (w : Word) (x : Fields w) → FieldsWritten w x → (s : List ℕ) (at : ℕ) (rest : List ℕ) → Ends rest → drop at s ≡ printOperation (make w x) ++ rest
@@ -189,7 +188,7 @@ operation-format w = record {
 
 pub operation-follows : Follows printOperation
 unfolding printOperation
-operation-follows Other rest e = e
-operation-follows (Barrier w) rest e = space-ends _
-operation-follows (Message w) rest e = space-ends _
-operation-follows (OnTable w o) rest e = space-ends _
+operation-follows Operation.Other rest e = e
+operation-follows (Operation.Barrier w) rest e = space-ends _
+operation-follows (Operation.Message w) rest e = space-ends _
+operation-follows (Operation.Table w o) rest e = space-ends _

@@ -11,7 +11,6 @@ use Rattle.digits.specs.Format.{Format}
 use Rattle.digits.proofs.Readers.{nothing, same-value, same-place, on-cond}
 use Rattle.digits.proofs.Keys.{starts-key}
 use Rattle.eventline.specs.declared.words.Word.{Word}
-use Rattle.eventline.specs.declared.words.Word.the-variants as W
 use Rattle.eventline.specs.declared.words.Write.{Write}
 use Rattle.eventline.specs.Words.{wordText, readOneOf, readWord}
 
@@ -28,16 +27,16 @@ word-before w ws s at e p = p ∙ rw e
 -- each word's text reads as the word
 word-reads : (w : Word) (s : List ℕ) (at : ℕ) (rest : List ℕ) → drop at s ≡ wordText w ++ rest → readWord s at ≡ some (w, at + length (wordText w))
 unfolding readWord readOneOf wordOr startsWith
-word-reads W.Other s at rest h = rw h refl
-word-reads W.Barrier s at rest h = rw h refl
-word-reads W.Message s at rest h = rw h refl
-word-reads W.Packet s at rest h = rw h refl
-word-reads (W.Write Write.Add) s at rest h = rw h refl
-word-reads (W.Write Write.AddChecked) s at rest h = rw h refl
-word-reads (W.Write Write.ModifyStrict) s at rest h = rw h refl
-word-reads (W.Write Write.Modify) s at rest h = rw h refl
-word-reads W.DeleteStrict s at rest h = rw h refl
-word-reads W.Delete s at rest h = rw h refl
+word-reads Word.Other s at rest h = rw h refl
+word-reads Word.Barrier s at rest h = rw h refl
+word-reads Word.Message s at rest h = rw h refl
+word-reads Word.Packet s at rest h = rw h refl
+word-reads (Word.Write Write.Add) s at rest h = rw h refl
+word-reads (Word.Write Write.AddChecked) s at rest h = rw h refl
+word-reads (Word.Write Write.ModifyStrict) s at rest h = rw h refl
+word-reads (Word.Write Write.Modify) s at rest h = rw h refl
+word-reads Word.DeleteStrict s at rest h = rw h refl
+word-reads Word.Delete s at rest h = rw h refl
 
 -- and what reads as a word is its text
 one-only : (ws : List Word) (s : List ℕ) (at : ℕ) (w : Word) (n : ℕ) → readOneOf ws s at ≡ some (w, n) → (drop at s ≡ wordText w ++ drop n s) × (n ≡ at + length (wordText w))

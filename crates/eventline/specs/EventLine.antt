@@ -17,8 +17,7 @@ use Rattle.fields.specs.Read.{readMatch, readPacket, readKey, readEntry}
 use Rattle.fields.specs.Written.{clearKey, clearEntry}
 use Rattle.events.specs.Events.{tokensOf}
 use Rattle.tokenlists.specs.TokenLists.{printTokens, readTokens}
-use Rattle.eventline.specs.declared.words.Word.the-variants as W
-use Rattle.eventline.specs.Types.{Refusal, TraceMalformed, EventMisnumbered, TraceAddressBit, TableOperation, Lookup, Add, AddChecked, ModifyStrict, Modify, DeleteStrict, Delete, Operation, Other, Barrier, Message, OnTable, Entry, Tokens, Event, Word, Write, OperationRead, EventRead}
+use Rattle.eventline.specs.Types.{Refusal, TableOperation, Operation, Entry, Tokens, Event, Word, Write, OperationRead, EventRead}
 use Rattle.eventline.specs.Words.{wordText, readWord}
 
 -- `ev=`
@@ -44,39 +43,39 @@ swKey = 32 ∷ 115 ∷ 119 ∷ 61 ∷ []
 -- ---- printing
 -- the word of an operation
 abbrev tableWord : TableOperation → Word
-tableWord (Lookup p) = W.Packet
-tableWord (Add e) = W.Write Write.Add
-tableWord (AddChecked e) = W.Write Write.AddChecked
-tableWord (ModifyStrict e) = W.Write Write.ModifyStrict
-tableWord (Modify e) = W.Write Write.Modify
-tableWord (DeleteStrict k) = W.DeleteStrict
-tableWord (Delete m) = W.Delete
+tableWord (TableOperation.Packet p) = Word.Packet
+tableWord (TableOperation.Add e) = Word.Write Write.Add
+tableWord (TableOperation.AddChecked e) = Word.Write Write.AddChecked
+tableWord (TableOperation.ModifyStrict e) = Word.Write Write.ModifyStrict
+tableWord (TableOperation.Modify e) = Word.Write Write.Modify
+tableWord (TableOperation.DeleteStrict k) = Word.DeleteStrict
+tableWord (TableOperation.Delete m) = Word.Delete
 
 abbrev pub wordOf : Operation → Word
-wordOf Other = W.Other
-wordOf (Barrier w) = W.Barrier
-wordOf (Message w) = W.Message
-wordOf (OnTable w o) = tableWord o
+wordOf Operation.Other = Word.Other
+wordOf (Operation.Barrier w) = Word.Barrier
+wordOf (Operation.Message w) = Word.Message
+wordOf (Operation.Table w o) = tableWord o
 
 -- for `pkt` the six fields; for writes prio, those six, act (`dels` has no act; `deln` neither prio nor act)
 abbrev printTable : TableOperation → List ℕ
-printTable (Lookup p) = printPacket p
-printTable (Add e) = printEntry e
-printTable (AddChecked e) = printEntry e
-printTable (ModifyStrict e) = printEntry e
-printTable (Modify e) = printEntry e
-printTable (DeleteStrict k) = printKey k
-printTable (Delete m) = printMatch m
+printTable (TableOperation.Packet p) = printPacket p
+printTable (TableOperation.Add e) = printEntry e
+printTable (TableOperation.AddChecked e) = printEntry e
+printTable (TableOperation.ModifyStrict e) = printEntry e
+printTable (TableOperation.Modify e) = printEntry e
+printTable (TableOperation.DeleteStrict k) = printKey k
+printTable (TableOperation.Delete m) = printMatch m
 
 abbrev pub printSwitch : ℕ → List ℕ
 printSwitch w = swKey ++ printNumber w
 
 -- for all but `oth` the switch, and then the operation's own fields
 unfoldable pub printOperation : Operation → List ℕ
-printOperation Other = []
-printOperation (Barrier w) = printSwitch w
-printOperation (Message w) = printSwitch w
-printOperation (OnTable w o) = printSwitch w ++ printTable o
+printOperation Operation.Other = []
+printOperation (Operation.Barrier w) = printSwitch w
+printOperation (Operation.Message w) = printSwitch w
+printOperation (Operation.Table w o) = printSwitch w ++ printTable o
 
 -- what stands behind the word
 unfoldable pub printBehind : Event → List ℕ
@@ -99,30 +98,30 @@ readSwitch = keyed swKey (readNumber 15)
 
 -- the operations of the four words with an entry
 abbrev pub writeOf : Write → Entry → TableOperation
-writeOf Write.Add e = Add e
-writeOf Write.AddChecked e = AddChecked e
-writeOf Write.ModifyStrict e = ModifyStrict e
-writeOf Write.Modify e = Modify e
+writeOf Write.Add e = TableOperation.Add e
+writeOf Write.AddChecked e = TableOperation.AddChecked e
+writeOf Write.ModifyStrict e = TableOperation.ModifyStrict e
+writeOf Write.Modify e = TableOperation.Modify e
 
 -- the operation of a word on switch w, with its own fields
 unfoldable pub readOn : Word → ℕ → Reader Operation
-readOn W.Other w s at = some (Other, at)
-readOn W.Barrier w s at = some (Barrier w, at)
-readOn W.Message w s at = some (Message w, at)
-readOn W.Packet w s at = mapped (λ p. OnTable w (Lookup p)) readPacket s at
-readOn (W.Write a) w s at = mapped (λ e. OnTable w (writeOf a e)) readEntry s at
-readOn W.DeleteStrict w s at = mapped (λ k. OnTable w (DeleteStrict k)) readKey s at
-readOn W.Delete w s at = mapped (λ m. OnTable w (Delete m)) readMatch s at
+readOn Word.Other w s at = some (Operation.Other, at)
+readOn Word.Barrier w s at = some (Operation.Barrier w, at)
+readOn Word.Message w s at = some (Operation.Message w, at)
+readOn Word.Packet w s at = mapped (λ p. Operation.Table w (TableOperation.Packet p)) readPacket s at
+readOn (Word.Write a) w s at = mapped (λ e. Operation.Table w (writeOf a e)) readEntry s at
+readOn Word.DeleteStrict w s at = mapped (λ k. Operation.Table w (TableOperation.DeleteStrict k)) readKey s at
+readOn Word.Delete w s at = mapped (λ m. Operation.Table w (TableOperation.Delete m)) readMatch s at
 
 -- the rest of the line of an operation, by its word: for all but `oth` the switch, and then its own fields
 unfoldable pub readOperation : Word → Reader Operation
-readOperation W.Other s at = some (Other, at)
-readOperation W.Barrier s at = andThen readSwitch (readOn W.Barrier) s at
-readOperation W.Message s at = andThen readSwitch (readOn W.Message) s at
-readOperation W.Packet s at = andThen readSwitch (readOn W.Packet) s at
-readOperation (W.Write a) s at = andThen readSwitch (readOn (W.Write a)) s at
-readOperation W.DeleteStrict s at = andThen readSwitch (readOn W.DeleteStrict) s at
-readOperation W.Delete s at = andThen readSwitch (readOn W.Delete) s at
+readOperation Word.Other s at = some (Operation.Other, at)
+readOperation Word.Barrier s at = andThen readSwitch (readOn Word.Barrier) s at
+readOperation Word.Message s at = andThen readSwitch (readOn Word.Message) s at
+readOperation Word.Packet s at = andThen readSwitch (readOn Word.Packet) s at
+readOperation (Word.Write a) s at = andThen readSwitch (readOn (Word.Write a)) s at
+readOperation Word.DeleteStrict s at = andThen readSwitch (readOn Word.DeleteStrict) s at
+readOperation Word.Delete s at = andThen readSwitch (readOn Word.Delete) s at
 
 -- what stands behind a word
 unfoldable pub readParts : Word → Reader (Tokens × (Tokens × Operation))
@@ -152,30 +151,30 @@ readLine l = atEnd l (readNumbered l 0)
 -- ---- refusals
 -- no address bit stands past its prefix
 abbrev pub clearTable : TableOperation → Bool
-clearTable (Lookup p) = true
-clearTable (Add e) = clearEntry e
-clearTable (AddChecked e) = clearEntry e
-clearTable (ModifyStrict e) = clearEntry e
-clearTable (Modify e) = clearEntry e
-clearTable (DeleteStrict k) = clearKey k
-clearTable (Delete m) = clear m
+clearTable (TableOperation.Packet p) = true
+clearTable (TableOperation.Add e) = clearEntry e
+clearTable (TableOperation.AddChecked e) = clearEntry e
+clearTable (TableOperation.ModifyStrict e) = clearEntry e
+clearTable (TableOperation.Modify e) = clearEntry e
+clearTable (TableOperation.DeleteStrict k) = clearKey k
+clearTable (TableOperation.Delete m) = clear m
 
 abbrev pub clearOperation : Operation → Bool
-clearOperation Other = true
-clearOperation (Barrier w) = true
-clearOperation (Message w) = true
-clearOperation (OnTable w o) = clearTable o
+clearOperation Operation.Other = true
+clearOperation (Operation.Barrier w) = true
+clearOperation (Operation.Message w) = true
+clearOperation (Operation.Table w o) = clearTable o
 
 abbrev pub clearEvent : Event → Bool
 clearEvent e = clearOperation (e .operation)
 
 -- on line k: 4 where the line is not read, 5 where the number is not k, 6 where an address bit stands past its prefix
 abbrev pub onLine : ℕ → Option (ℕ × Event) → Refusal ⊎ Event
-onLine k none = inl (TraceMalformed k)
+onLine k none = inl (Refusal.TraceMalformed k)
 onLine k (some r) =
     cond (eqb (r .0) k)
-    (cond (clearEvent (r .1)) (inr (r .1)) (inl (TraceAddressBit k)))
-    (inl (EventMisnumbered k))
+    (cond (clearEvent (r .1)) (inr (r .1)) (inl (Refusal.TraceAddressBit k)))
+    (inl (Refusal.EventMisnumbered k))
 
 unfoldable pub readEvent : ℕ → List ℕ → Refusal ⊎ Event
 readEvent k l = onLine k (readLine l)

@@ -1,14 +1,11 @@
 -- The types that this crate's definitions speak of, under one name each.
 pub use Rattle.refusals.specs.declared.refusal.Refusal.{Refusal}
-pub use Rattle.refusals.specs.declared.refusal.Refusal.the-variants.{TraceMalformed, EventMisnumbered, TraceAddressBit}
 pub use Rattle.flow.specs.declared.matching.Match.{Match}
 pub use Rattle.flow.specs.declared.matching.Packet.{Packet}
 pub use Rattle.flow.specs.declared.entry.Key.{Key}
 pub use Rattle.flow.specs.declared.entry.Entry.{Entry}
 pub use Rattle.table.specs.declared.operation.TableOperation.{TableOperation}
-pub use Rattle.table.specs.declared.operation.TableOperation.the-variants.{Packet as Lookup, Add, AddChecked, ModifyStrict, Modify, DeleteStrict, Delete}
 pub use Rattle.table.specs.declared.operation.Operation.{Operation}
-pub use Rattle.table.specs.declared.operation.Operation.the-variants.{Other, Barrier, Message, Table as OnTable}
 pub use Rattle.events.specs.declared.tokens.Tokens.{Tokens}
 pub use Rattle.events.specs.declared.event.Event.{Event}
 pub use Rattle.eventline.specs.declared.words.Word.{Word}

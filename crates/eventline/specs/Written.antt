@@ -7,23 +7,23 @@ use Rattle.table.specs.FlowTable.{effectOf}
 use Rattle.commute.specs.Commuting.{EffectInRange}
 use Rattle.orders.specs.Tables.{switchOf}
 use Rattle.tokenlists.specs.TokenLists.{TokensWritten}
-use Rattle.eventline.specs.Types.{TableOperation, Lookup, Add, AddChecked, ModifyStrict, Modify, DeleteStrict, Delete, Operation, Other, Barrier, Message, OnTable, Event}
+use Rattle.eventline.specs.Types.{TableOperation, Operation, Event}
 
 abbrev pub TableWritten : TableOperation → Type 0
-TableWritten (Lookup p) = PacketInRange p
-TableWritten (Add e) = EntryWritten e
-TableWritten (AddChecked e) = EntryWritten e
-TableWritten (ModifyStrict e) = EntryWritten e
-TableWritten (Modify e) = EntryWritten e
-TableWritten (DeleteStrict k) = KeyWritten k
-TableWritten (Delete m) = MatchWritten m
+TableWritten (TableOperation.Packet p) = PacketInRange p
+TableWritten (TableOperation.Add e) = EntryWritten e
+TableWritten (TableOperation.AddChecked e) = EntryWritten e
+TableWritten (TableOperation.ModifyStrict e) = EntryWritten e
+TableWritten (TableOperation.Modify e) = EntryWritten e
+TableWritten (TableOperation.DeleteStrict k) = KeyWritten k
+TableWritten (TableOperation.Delete m) = MatchWritten m
 
 -- a switch is 0 to 15
 abbrev pub OperationWritten : Operation → Type 0
-OperationWritten Other = Unit {0}
-OperationWritten (Barrier w) = w ≤ 15
-OperationWritten (Message w) = w ≤ 15
-OperationWritten (OnTable w o) = (w ≤ 15) × TableWritten o
+OperationWritten Operation.Other = Unit {0}
+OperationWritten (Operation.Barrier w) = w ≤ 15
+OperationWritten (Operation.Message w) = w ≤ 15
+OperationWritten (Operation.Table w o) = (w ≤ 15) × TableWritten o
 
 pub record EventWritten (e : Event) : Type 0 where
   pub ins : TokensWritten (e .ins)

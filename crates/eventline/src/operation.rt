@@ -17,7 +17,6 @@ use table::TableOperation;
 ghost use mathlib.Core.Path.{_≡_};
 ghost use Rattle.digits.specs.Reading.{mapped};
 ghost use Rattle.fields.specs.Read.{readPacket, readEntry, readKey, readMatch};
-ghost use Rattle.eventline.specs.Types.{Lookup, DeleteStrict, Delete, OnTable};
 ghost use Rattle.eventline.specs.EventLine.{writeOf, readOn, readOperation, asOperation};
 
 // Switches are 0 to 15.
@@ -42,7 +41,7 @@ fn write_of(write: Write, entry: Entry) -> TableOperation
 
 // Such a write, with its entry.
 fn write_at(s: &[u8], at: usize, w: u8, write: Write) -> OperationRead
-    ensures { λ r. ⌜ asOperation r ≡ mapped (λ e. OnTable w (writeOf write e)) readEntry (now (s .entry)) at ⌝ }
+    ensures { λ r. ⌜ asOperation r ≡ mapped (λ e. Operation.Table w (writeOf write e)) readEntry (now (s .entry)) at ⌝ }
 {
     let EntryRead::Read { value: entry, next } = entry_at(s, at) else {
         return OperationRead::Bad;
@@ -56,7 +55,7 @@ fn write_at(s: &[u8], at: usize, w: u8, write: Write) -> OperationRead
 
 // `pkt`: a packet.
 fn lookup_at(s: &[u8], at: usize, w: u8) -> OperationRead
-    ensures { λ r. ⌜ asOperation r ≡ mapped (λ p. OnTable w (Lookup p)) readPacket (now (s .entry)) at ⌝ }
+    ensures { λ r. ⌜ asOperation r ≡ mapped (λ p. Operation.Table w (TableOperation.Packet p)) readPacket (now (s .entry)) at ⌝ }
 {
     let PacketRead::Read { value, next } = packet_at(s, at) else {
         return OperationRead::Bad;
@@ -69,7 +68,7 @@ fn lookup_at(s: &[u8], at: usize, w: u8) -> OperationRead
 
 // `dels`: a key.
 fn delete_strict_at(s: &[u8], at: usize, w: u8) -> OperationRead
-    ensures { λ r. ⌜ asOperation r ≡ mapped (λ k. OnTable w (DeleteStrict k)) readKey (now (s .entry)) at ⌝ }
+    ensures { λ r. ⌜ asOperation r ≡ mapped (λ k. Operation.Table w (TableOperation.DeleteStrict k)) readKey (now (s .entry)) at ⌝ }
 {
     let KeyRead::Read { value, next } = key_at(s, at) else {
         return OperationRead::Bad;
@@ -82,7 +81,7 @@ fn delete_strict_at(s: &[u8], at: usize, w: u8) -> OperationRead
 
 // `deln`: a match.
 fn delete_at(s: &[u8], at: usize, w: u8) -> OperationRead
-    ensures { λ r. ⌜ asOperation r ≡ mapped (λ m. OnTable w (Delete m)) readMatch (now (s .entry)) at ⌝ }
+    ensures { λ r. ⌜ asOperation r ≡ mapped (λ m. Operation.Table w (TableOperation.Delete m)) readMatch (now (s .entry)) at ⌝ }
 {
     let MatchRead::Read { value, next } = match_at(s, at) else {
         return OperationRead::Bad;

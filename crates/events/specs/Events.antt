@@ -4,7 +4,7 @@ use mathlib.Core.List.{List, [], _∷_}
 use Prim.Native.Nat.{ℕ, zero, suc}
 use lib.ListN.{take, getD}
 use Rattle.orders.specs.Orders.{has}
-use Rattle.events.specs.Types.{TableOperation, Lookup, Add, AddChecked, ModifyStrict, Modify, DeleteStrict, Delete, Operation, Other, Barrier, Message, OnTable, Tokens, Event, Trace}
+use Rattle.events.specs.Types.{TableOperation, Operation, Tokens, Event, Trace}
 
 -- the numbers of a token list: the first `count` of the four, all of them where it is more
 unfoldable pub tokensOf : Tokens → List ℕ
@@ -33,31 +33,31 @@ abbrev pub noTokens : Tokens
 noTokens = record { t0 = 0; t1 = 0; t2 = 0; t3 = 0; count = 0 }
 
 abbrev pub noEvent : Event
-noEvent = record { ins = noTokens; outs = noTokens; operation = Other }
+noEvent = record { ins = noTokens; outs = noTokens; operation = Operation.Other }
 
 -- the event of line i
 abbrev pub eventAt : List Event → ℕ → Event
 eventAt es i = getD es i noEvent
 
 abbrev pub isBarrier : Operation → Bool
-isBarrier Other = false
-isBarrier (Barrier w) = true
-isBarrier (Message w) = false
-isBarrier (OnTable w o) = false
+isBarrier Operation.Other = false
+isBarrier (Operation.Barrier w) = true
+isBarrier (Operation.Message w) = false
+isBarrier (Operation.Table w o) = false
 
 -- a table operation that is a write: all but a packet
 abbrev pub isWrite : TableOperation → Bool
-isWrite (Lookup p) = false
-isWrite (Add e) = true
-isWrite (AddChecked e) = true
-isWrite (ModifyStrict e) = true
-isWrite (Modify e) = true
-isWrite (DeleteStrict k) = true
-isWrite (Delete m) = true
+isWrite (TableOperation.Packet p) = false
+isWrite (TableOperation.Add e) = true
+isWrite (TableOperation.AddChecked e) = true
+isWrite (TableOperation.ModifyStrict e) = true
+isWrite (TableOperation.Modify e) = true
+isWrite (TableOperation.DeleteStrict k) = true
+isWrite (TableOperation.Delete m) = true
 
 -- among writes, `bar` and `msg`: what a barrier of the same switch orders
 abbrev pub barrierOrders : Operation → Bool
-barrierOrders Other = false
-barrierOrders (Barrier w) = true
-barrierOrders (Message w) = true
-barrierOrders (OnTable w o) = isWrite o
+barrierOrders Operation.Other = false
+barrierOrders (Operation.Barrier w) = true
+barrierOrders (Operation.Message w) = true
+barrierOrders (Operation.Table w o) = isWrite o

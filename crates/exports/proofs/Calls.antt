@@ -3,36 +3,36 @@ use Prim.Native.Nat.{ℕ}
 use mathlib.Core.List.{List, []}
 use mathlib.Core.Path.{_≡_, refl}
 use Rattle.rules.specs.Normal.{asNormal}
-use Rattle.exports.specs.Types.{Refusal, Counts, ListAnswer, Counted, ListRefused, NormalAnswer, NormalLength, NormalRefused, ReplayAnswer, Lengths, ReplayRefused, Refused}
+use Rattle.exports.specs.Types.{Refusal, Counts, ListAnswer, NormalAnswer, ReplayAnswer, Refused}
 use Rattle.refusals.specs.Refused.{nothingRefused, refusedAs}
 use Rattle.exports.specs.Calls.{listAs, normalAs, replayAs}
 
-pub list-counted : (trace : List ℕ) {answer : ListAnswer} {c : Counts} {x : Refused} → answer ≡ Counted c → x ≡ nothingRefused
+pub list-counted : (trace : List ℕ) {answer : ListAnswer} {c : Counts} {x : Refused} → answer ≡ ListAnswer.Counts c → x ≡ nothingRefused
     → record { refused = x; pairs = c .pairs; ordered = c .ordered; commuting = c .commuting; listed = c .listed } ≡ listAs trace answer
 unfolding listAs
 list-counted trace e h = rw (e, h) refl
 
-pub list-refused : (trace : List ℕ) {answer : ListAnswer} {r : Refusal} {x : Refused} → answer ≡ ListRefused r → x ≡ refusedAs trace [] r
+pub list-refused : (trace : List ℕ) {answer : ListAnswer} {r : Refusal} {x : Refused} → answer ≡ ListAnswer.Refused r → x ≡ refusedAs trace [] r
     → record { refused = x; pairs = 0; ordered = 0; commuting = 0; listed = 0 } ≡ listAs trace answer
 unfolding listAs
 list-refused trace e h = rw (e, h) refl
 
-pub normal-refused : (tables : List ℕ) {answer : NormalAnswer} {r : Refusal} {x : Refused} → answer ≡ NormalRefused r → x ≡ refusedAs [] tables r
+pub normal-refused : (tables : List ℕ) {answer : NormalAnswer} {r : Refusal} {x : Refused} → answer ≡ NormalAnswer.Refused r → x ≡ refusedAs [] tables r
     → record { refused = x; length = 0 } ≡ normalAs tables (asNormal answer)
 unfolding normalAs
 normal-refused tables e h = rw (e, h) refl
 
-pub normal-written : (tables : List ℕ) {answer : NormalAnswer} {n : ℕ} {x : Refused} → answer ≡ NormalLength n → x ≡ nothingRefused
+pub normal-written : (tables : List ℕ) {answer : NormalAnswer} {n : ℕ} {x : Refused} → answer ≡ NormalAnswer.Length n → x ≡ nothingRefused
     → record { refused = x; length = n } ≡ normalAs tables (asNormal answer)
 unfolding normalAs
 normal-written tables e h = rw (e, h) refl
 
-pub replay-written : (trace tables : List ℕ) {answer : ReplayAnswer} {m n : ℕ} {x : Refused} → answer ≡ Lengths m n → x ≡ nothingRefused
+pub replay-written : (trace tables : List ℕ) {answer : ReplayAnswer} {m n : ℕ} {x : Refused} → answer ≡ ReplayAnswer.Lengths m n → x ≡ nothingRefused
     → record { refused = x; tables = m; answers = n } ≡ replayAs trace tables answer
 unfolding replayAs
 replay-written trace tables e h = rw (e, h) refl
 
-pub replay-refused : (trace tables : List ℕ) {answer : ReplayAnswer} {r : Refusal} {x : Refused} → answer ≡ ReplayRefused r → x ≡ refusedAs trace tables r
+pub replay-refused : (trace tables : List ℕ) {answer : ReplayAnswer} {r : Refusal} {x : Refused} → answer ≡ ReplayAnswer.Refused r → x ≡ refusedAs trace tables r
     → record { refused = x; tables = 0; answers = 0 } ≡ replayAs trace tables answer
 unfolding replayAs
 replay-refused trace tables e h = rw (e, h) refl

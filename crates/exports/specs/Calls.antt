@@ -2,14 +2,14 @@
 use Prim.Native.Nat.{ℕ}
 use mathlib.Core.List.{List, []}
 use mathlib.Core.Logic.{_⊎_, inl, inr}
-use Rattle.exports.specs.Types.{Refusal, ListAnswer, Counted, ListRefused, Listed, Normalised, ReplayAnswer, Lengths, ReplayRefused, Replayed}
+use Rattle.exports.specs.Types.{Refusal, ListAnswer, Listed, Normalised, ReplayAnswer, Replayed}
 use Rattle.refusals.specs.Refused.{nothingRefused, refusedAs}
 
 -- the list call on a trace: the counts, or the refusal and counts of 0
 unfoldable pub listAs : List ℕ → ListAnswer → Listed
-listAs trace (Counted c) =
+listAs trace (ListAnswer.Counts c) =
     record { refused = nothingRefused; pairs = c .pairs; ordered = c .ordered; commuting = c .commuting; listed = c .listed }
-listAs trace (ListRefused r) = record { refused = refusedAs trace [] r; pairs = 0; ordered = 0; commuting = 0; listed = 0 }
+listAs trace (ListAnswer.Refused r) = record { refused = refusedAs trace [] r; pairs = 0; ordered = 0; commuting = 0; listed = 0 }
 
 -- the normaliser on tables: the length of the normal text, or the refusal and a length of 0
 unfoldable pub normalAs : List ℕ → Refusal ⊎ ℕ → Normalised
@@ -18,5 +18,5 @@ normalAs tables (inl r) = record { refused = refusedAs [] tables r; length = 0 }
 
 -- replay of a trace on tables: the lengths of the end tables and of the answers, or the refusal and lengths of 0
 unfoldable pub replayAs : List ℕ → List ℕ → ReplayAnswer → Replayed
-replayAs trace tables (Lengths m n) = record { refused = nothingRefused; tables = m; answers = n }
-replayAs trace tables (ReplayRefused r) = record { refused = refusedAs trace tables r; tables = 0; answers = 0 }
+replayAs trace tables (ReplayAnswer.Lengths m n) = record { refused = nothingRefused; tables = m; answers = n }
+replayAs trace tables (ReplayAnswer.Refused r) = record { refused = refusedAs trace tables r; tables = 0; answers = 0 }

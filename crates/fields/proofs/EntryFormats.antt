@@ -12,7 +12,7 @@ use Rattle.digits.proofs.Numbers.{number-format}
 use Rattle.digits.proofs.Format.{Follows, Format, space-ends, keyed-format, along, both-format}
 use Rattle.digits.proofs.Words.{word-format}
 use Rattle.flow.specs.Entries.{ActionInRange}
-use Rattle.fields.specs.Types.{Action, Drop, Controller, Port, Key, Entry}
+use Rattle.fields.specs.Types.{Action, Key, Entry}
 use Rattle.fields.specs.Print.{prioKey, actKey, dropWord, controllerWord, outKey, printAction, printKey, printEntry}
 use Rattle.fields.specs.Read.{readAction, readKey, readEntry}
 use Rattle.fields.specs.Written.{KeyWritten, EntryWritten}
@@ -20,63 +20,63 @@ use Rattle.fields.proofs.MatchFormats.{match-follows, match-format}
 
 -- ---- `drop`, `ctl` or `pN`
 abbrev portOf : Action → ℕ
-portOf Drop = 0
-portOf Controller = 0
-portOf (Port n) = n
+portOf Action.Drop = 0
+portOf Action.Controller = 0
+portOf (Action.Port n) = n
 
 -- an action but `drop`, and one that is a port
 abbrev NoDrop : Action → Type 0
-NoDrop Drop = ⊥
-NoDrop Controller = Unit {0}
-NoDrop (Port n) = n < 65536
+NoDrop Action.Drop = ⊥
+NoDrop Action.Controller = Unit {0}
+NoDrop (Action.Port n) = n < 65536
 
 abbrev IsPort : Action → Type 0
-IsPort Drop = ⊥
-IsPort Controller = ⊥
-IsPort (Port n) = n < 65536
+IsPort Action.Drop = ⊥
+IsPort Action.Controller = ⊥
+IsPort (Action.Port n) = n < 65536
 
-to : (a : Action) → IsPort a → (portOf a ≤ 65535) × (Port (portOf a) ≡ a)
-to Drop o = absurd o
-to Controller o = absurd o
-to (Port n) o = (omega arith, refl)
+to : (a : Action) → IsPort a → (portOf a ≤ 65535) × (Action.Port (portOf a) ≡ a)
+to Action.Drop o = absurd o
+to Action.Controller o = absurd o
+to (Action.Port n) o = (omega arith, refl)
 
-port-format : Format IsPort (λ a. outKey ++ printNumber (portOf a)) (mapped Port (keyed outKey (readNumber 65535)))
-port-format = along portOf Port to (λ v o. (omega arith, refl)) (keyed-format outKey (number-format 65535 (omega arith)))
+port-format : Format IsPort (λ a. outKey ++ printNumber (portOf a)) (mapped Action.Port (keyed outKey (readNumber 65535)))
+port-format = along portOf Action.Port to (λ v o. (omega arith, refl)) (keyed-format outKey (number-format 65535 (omega arith)))
 
-controller-or : (a : Action) → NoDrop a → (a ≡ Controller) ⊎ IsPort a
-controller-or Drop o = absurd o
-controller-or Controller o = inl refl
-controller-or (Port n) o = inr o
+controller-or : (a : Action) → NoDrop a → (a ≡ Action.Controller) ⊎ IsPort a
+controller-or Action.Drop o = absurd o
+controller-or Action.Controller o = inl refl
+controller-or (Action.Port n) o = inr o
 
 is-port : (a : Action) → IsPort a → NoDrop a × (printAction a ≡ outKey ++ printNumber (portOf a))
 unfolding printAction
-is-port Drop o = absurd o
-is-port Controller o = absurd o
-is-port (Port n) o = (o, refl)
+is-port Action.Drop o = absurd o
+is-port Action.Controller o = absurd o
+is-port (Action.Port n) o = (o, refl)
 
-no-drop-format : Format NoDrop printAction (wordOr controllerWord Controller (mapped Port (keyed outKey (readNumber 65535))))
+no-drop-format : Format NoDrop printAction (wordOr controllerWord Action.Controller (mapped Action.Port (keyed outKey (readNumber 65535))))
 unfolding printAction startsWith
-no-drop-format = word-format controllerWord Controller (tt, refl) controller-or is-port (λ a o rest. refl) port-format
+no-drop-format = word-format controllerWord Action.Controller (tt, refl) controller-or is-port (λ a o rest. refl) port-format
 
-drop-or : (a : Action) → ActionInRange a → (a ≡ Drop) ⊎ NoDrop a
-drop-or Drop o = inl refl
-drop-or Controller o = inr tt
-drop-or (Port n) o = inr o
+drop-or : (a : Action) → ActionInRange a → (a ≡ Action.Drop) ⊎ NoDrop a
+drop-or Action.Drop o = inl refl
+drop-or Action.Controller o = inr tt
+drop-or (Action.Port n) o = inr o
 
 no-drop : (a : Action) → NoDrop a → ActionInRange a × (printAction a ≡ printAction a)
-no-drop Drop o = absurd o
-no-drop Controller o = (tt, refl)
-no-drop (Port n) o = (o, refl)
+no-drop Action.Drop o = absurd o
+no-drop Action.Controller o = (tt, refl)
+no-drop (Action.Port n) o = (o, refl)
 
 drop-apart : (a : Action) → NoDrop a → (rest : List ℕ) → startsWith dropWord (printAction a ++ rest) ≡ false
 unfolding printAction startsWith
-drop-apart Drop o rest = absurd o
-drop-apart Controller o rest = refl
-drop-apart (Port n) o rest = refl
+drop-apart Action.Drop o rest = absurd o
+drop-apart Action.Controller o rest = refl
+drop-apart (Action.Port n) o rest = refl
 
 pub action-format : Format ActionInRange printAction readAction
 unfolding printAction readAction
-action-format = word-format dropWord Drop (tt, refl) drop-or no-drop drop-apart no-drop-format
+action-format = word-format dropWord Action.Drop (tt, refl) drop-or no-drop drop-apart no-drop-format
 
 -- ---- key and entry
 pub key-follows : Follows printKey

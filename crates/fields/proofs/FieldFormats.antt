@@ -11,7 +11,7 @@ use Rattle.digits.proofs.Hex.{hex-format}
 use Rattle.digits.proofs.Format.{Format, keyed-format, along, both-format}
 use Rattle.digits.proofs.Words.{word-format, number-apart}
 use Rattle.flow.specs.Matches.{ExactInRange, exactPoint}
-use Rattle.fields.specs.Types.{Exact, Any, Is, Prefix}
+use Rattle.fields.specs.Types.{Exact, Prefix}
 use Rattle.fields.specs.Print.{anyWord, slashKey, printExact, printPrefix}
 use Rattle.fields.specs.Read.{readExact, readPrefix}
 use Rattle.fields.specs.Written.{PrefixWritten}
@@ -19,29 +19,29 @@ use Rattle.fields.specs.Written.{PrefixWritten}
 -- ---- `*`, or a number
 -- a field that is a number
 abbrev NumberIn : ℕ → Exact → Type 0
-NumberIn w Any = ⊥
-NumberIn w (Is v) = v < w
+NumberIn w Exact.Any = ⊥
+NumberIn w (Exact.Is v) = v < w
 
 module _ (max : ℕ) (h : max < 10 ^ 10) where
-  to : (x : Exact) → NumberIn (max + 1) x → (exactPoint x ≤ max) × (Is (exactPoint x) ≡ x)
-  to Any o = absurd o
-  to (Is v) o = (omega arith, refl)
+  to : (x : Exact) → NumberIn (max + 1) x → (exactPoint x ≤ max) × (Exact.Is (exactPoint x) ≡ x)
+  to Exact.Any o = absurd o
+  to (Exact.Is v) o = (omega arith, refl)
 
-  number-field : Format (NumberIn (max + 1)) (λ x. printNumber (exactPoint x)) (mapped Is (readNumber max))
-  number-field = along exactPoint Is to (λ v o. (omega arith, refl)) (number-format max h)
+  number-field : Format (NumberIn (max + 1)) (λ x. printNumber (exactPoint x)) (mapped Exact.Is (readNumber max))
+  number-field = along exactPoint Exact.Is to (λ v o. (omega arith, refl)) (number-format max h)
 
-  any-or : (x : Exact) → ExactInRange (max + 1) x → (x ≡ Any) ⊎ NumberIn (max + 1) x
-  any-or Any o = inl refl
-  any-or (Is v) o = inr o
+  any-or : (x : Exact) → ExactInRange (max + 1) x → (x ≡ Exact.Any) ⊎ NumberIn (max + 1) x
+  any-or Exact.Any o = inl refl
+  any-or (Exact.Is v) o = inr o
 
   is-number : (x : Exact) → NumberIn (max + 1) x → ExactInRange (max + 1) x × (printExact x ≡ printNumber (exactPoint x))
   unfolding printExact
-  is-number Any o = absurd o
-  is-number (Is v) o = (o, refl)
+  is-number Exact.Any o = absurd o
+  is-number (Exact.Is v) o = (o, refl)
 
   pub exact-format : Format (ExactInRange (max + 1)) printExact (readExact max)
   unfolding printExact readExact
-  exact-format = word-format anyWord Any (tt, refl) any-or is-number (λ x o rest. number-apart (exactPoint x) 42 _ rest (omega arith)) number-field
+  exact-format = word-format anyWord Exact.Any (tt, refl) any-or is-number (λ x o rest. number-apart (exactPoint x) 42 _ rest (omega arith)) number-field
 
 -- ---- an address, and the length
 pub prefix-format : Format PrefixWritten printPrefix readPrefix

@@ -2,7 +2,7 @@
 use Prim.Native.Nat.{ℕ}
 use mathlib.Core.List.{List, [], _∷_, _++_}
 use Rattle.digits.specs.Print.{printNumber, printHex}
-use Rattle.fields.specs.Types.{Exact, Any, Is, Prefix, Match, Packet, Action, Drop, Controller, Port, Key, Entry}
+use Rattle.fields.specs.Types.{Exact, Prefix, Match, Packet, Action, Key, Entry}
 
 -- ` port=`
 abbrev pub portKey : List ℕ
@@ -58,8 +58,8 @@ outKey = 112 ∷ []
 
 -- `*`, or a number
 unfoldable pub printExact : Exact → List ℕ
-printExact Any = anyWord
-printExact (Is v) = printNumber v
+printExact Exact.Any = anyWord
+printExact (Exact.Is v) = printNumber v
 
 -- eight hexadecimal digits, `/`, the length
 unfoldable pub printPrefix : Prefix → List ℕ
@@ -83,9 +83,9 @@ printPacket p = printSix printNumber printHex (p .port) (p .src) (p .dst) (p .pr
 
 -- `drop`, `ctl` or `pN`
 unfoldable pub printAction : Action → List ℕ
-printAction Drop = dropWord
-printAction Controller = controllerWord
-printAction (Port n) = outKey ++ printNumber n
+printAction Action.Drop = dropWord
+printAction Action.Controller = controllerWord
+printAction (Action.Port n) = outKey ++ printNumber n
 
 -- priority, then match
 unfoldable pub printKey : Key → List ℕ

@@ -4,12 +4,12 @@ use Prim.Native.Nat.{ℕ}
 use mathlib.Core.Option.{Option, none, some}
 use Rattle.digits.specs.Reading.{Reader, mapped, keyed, wordOr, both}
 use Rattle.digits.specs.Number.{readNumber, readHex}
-use Rattle.fields.specs.Types.{Exact, Any, Is, Prefix, Match, Packet, Action, Drop, Controller, Port, Key, Entry, ExactRead, PrefixRead, MatchRead, PacketRead, ActionRead, KeyRead, EntryRead}
+use Rattle.fields.specs.Types.{Exact, Prefix, Match, Packet, Action, Key, Entry, ExactRead, PrefixRead, MatchRead, PacketRead, ActionRead, KeyRead, EntryRead}
 use Rattle.fields.specs.Print.{portKey, srcKey, dstKey, protoKey, sportKey, dportKey, prioKey, actKey, anyWord, slashKey, dropWord, controllerWord, outKey}
 
 -- `*`, or a number at most max
 unfoldable pub readExact : ℕ → Reader Exact
-readExact max = wordOr anyWord Any (mapped Is (readNumber max))
+readExact max = wordOr anyWord Exact.Any (mapped Exact.Is (readNumber max))
 
 -- eight hexadecimal digits, `/`, a length at most 32
 unfoldable pub readPrefix : Reader Prefix
@@ -38,7 +38,7 @@ readPacket = mapped packetOf (readSix readNumber readHex)
 
 -- `drop`, `ctl` or `pN`
 unfoldable pub readAction : Reader Action
-readAction = wordOr dropWord Drop (wordOr controllerWord Controller (mapped Port (keyed outKey (readNumber 65535))))
+readAction = wordOr dropWord Action.Drop (wordOr controllerWord Action.Controller (mapped Action.Port (keyed outKey (readNumber 65535))))
 
 -- priority, then match
 unfoldable pub readKey : Reader Key

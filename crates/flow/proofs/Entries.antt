@@ -5,16 +5,16 @@ use mathlib.Core.Logic.{_↔_}
 use mathlib.Core.Bool.{true, false, false≢true, true≢false}
 use native.Mathlib.Omega.{arith}
 use borrow.Author.Tests.{eqb-true, eq-eqb}
-use Rattle.flow.specs.Types.{Exact, Any, Is, Match, Action, Drop, Controller, Port, Key, Ordering, Less, Equal, Greater}
+use Rattle.flow.specs.Types.{Exact, Match, Action, Key, Ordering}
 use Rattle.flow.specs.Entries.{exactRank, rank, matchOrder, keyOrder, isEqual, sameKey, actionCode, sameAction}
 use Rattle.flow.proofs.Booleans.{split}
 use Rattle.flow.proofs.Orders.{IsOrder, opposite, falling, lexicographic, in-turn}
 
 exact-apart : (a b : Exact) → exactRank a ≡ exactRank b → a ≡ b
-exact-apart Any Any e = refl
-exact-apart Any (Is n) e = absurd (omega arith)
-exact-apart (Is m) Any e = absurd (omega arith)
-exact-apart (Is m) (Is n) e = let q : m ≡ n = omega arith in rw q
+exact-apart Exact.Any Exact.Any e = refl
+exact-apart Exact.Any (Exact.Is n) e = absurd (omega arith)
+exact-apart (Exact.Is m) Exact.Any e = absurd (omega arith)
+exact-apart (Exact.Is m) (Exact.Is n) e = let q : m ≡ n = omega arith in rw q
 
 -- the rank tells matches apart
 pub rank-injective : (m n : Match) → rank m ≡ rank n → m ≡ n
@@ -43,10 +43,10 @@ unfolding keyOrder matchOrder
 key-order = in-turn falling lexicographic (λ (k : Key). k .priority) (λ k. rank (k .pattern))
     (λ j k p q. λ i. record { priority = p i; pattern = rank-injective (j .pattern) (k .pattern) q i })
 
-is-equal : (o : Ordering) → isEqual o ≡ true → o ≡ Equal
-is-equal Less e = absurd (false≢true e)
-is-equal Equal e = refl
-is-equal Greater e = absurd (false≢true e)
+is-equal : (o : Ordering) → isEqual o ≡ true → o ≡ Ordering.Equal
+is-equal Ordering.Less e = absurd (false≢true e)
+is-equal Ordering.Equal e = refl
+is-equal Ordering.Greater e = absurd (false≢true e)
 
 -- ---- the same key
 pub same-eq : (j k : Key) → sameKey j k ≡ true → j ≡ k
@@ -72,27 +72,27 @@ differ-of j k h = split (sameKey j k) (λ e. absurd (h (same-eq j k e))) (λ e. 
 pub same-sym : (j k : Key) → sameKey j k ≡ sameKey k j
 same-sym j k = split (sameKey j k) (λ e. e ∙ sym (same-of (sym (same-eq j k e)))) (λ e. e ∙ sym (differ-of k j (λ q. differ j k e (sym q))))
 
-pub less-differ : (j k : Key) → keyOrder j k ≡ Less → sameKey j k ≡ false
+pub less-differ : (j k : Key) → keyOrder j k ≡ Ordering.Less → sameKey j k ≡ false
 unfolding sameKey
 less-differ j k e = rw e refl
 
-pub greater-less : (j k : Key) → keyOrder j k ≡ Greater → keyOrder k j ≡ Less
+pub greater-less : (j k : Key) → keyOrder j k ≡ Ordering.Greater → keyOrder k j ≡ Ordering.Less
 greater-less j k e = key-order .turn j k ∙ ap opposite e
 
-pub greater-differ : (j k : Key) → keyOrder j k ≡ Greater → j ≡ k → ⊥
+pub greater-differ : (j k : Key) → keyOrder j k ≡ Ordering.Greater → j ≡ k → ⊥
 greater-differ j k e q = true≢false (sym (same-of (sym q)) ∙ less-differ k j (greater-less j k e))
 
 -- ---- the same action
 code-apart : (a b : Action) → actionCode a ≡ actionCode b → a ≡ b
-code-apart Drop Drop e = refl
-code-apart Drop Controller e = absurd (omega arith)
-code-apart Drop (Port n) e = absurd (omega arith)
-code-apart Controller Drop e = absurd (omega arith)
-code-apart Controller Controller e = refl
-code-apart Controller (Port n) e = absurd (omega arith)
-code-apart (Port m) Drop e = absurd (omega arith)
-code-apart (Port m) Controller e = absurd (omega arith)
-code-apart (Port m) (Port n) e = let q : m ≡ n = omega arith in rw q
+code-apart Action.Drop Action.Drop e = refl
+code-apart Action.Drop Action.Controller e = absurd (omega arith)
+code-apart Action.Drop (Action.Port n) e = absurd (omega arith)
+code-apart Action.Controller Action.Drop e = absurd (omega arith)
+code-apart Action.Controller Action.Controller e = refl
+code-apart Action.Controller (Action.Port n) e = absurd (omega arith)
+code-apart (Action.Port m) Action.Drop e = absurd (omega arith)
+code-apart (Action.Port m) Action.Controller e = absurd (omega arith)
+code-apart (Action.Port m) (Action.Port n) e = let q : m ≡ n = omega arith in rw q
 
 pub action-eq : (a b : Action) → sameAction a b ≡ true → a ≡ b
 unfolding sameAction

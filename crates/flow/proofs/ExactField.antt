@@ -5,30 +5,30 @@ use Prim.Native.Nat.{ℕ, zero, suc, _≤_, _<_}
 use native.Mathlib.Omega.{arith}
 use lib.Dec.{eqb}
 use borrow.Author.Tests.{eqb-true, eqb-false, eq-eqb, ne-eqb}
-use Rattle.flow.specs.Types.{Exact, Any, Is}
+use Rattle.flow.specs.Types.{Exact}
 use Rattle.flow.specs.Matches.{exactFits, exactOverlaps, exactWithin, exactMeet, exactPoint, ExactInRange}
 use Rattle.flow.proofs.Booleans.{and-absorb}
 use Rattle.flow.proofs.Field.{IsField}
 
 point-fits : (a : Exact) → exactFits a (exactPoint a) ≡ true
-point-fits Any = refl
-point-fits (Is n) = eq-eqb n n refl
+point-fits Exact.Any = refl
+point-fits (Exact.Is n) = eq-eqb n n refl
 
 within-fits : (a b : Exact) → exactWithin a b ≡ true → (x : ℕ) → exactFits a x ≡ true → exactFits b x ≡ true
-within-fits Any Any h x e = refl
-within-fits (Is m) Any h x e = refl
-within-fits Any (Is n) h x e = absurd (false≢true h)
-within-fits (Is m) (Is n) h x e = rw (← eqb-true m n h) e
+within-fits Exact.Any Exact.Any h x e = refl
+within-fits (Exact.Is m) Exact.Any h x e = refl
+within-fits Exact.Any (Exact.Is n) h x e = absurd (false≢true h)
+within-fits (Exact.Is m) (Exact.Is n) h x e = rw (← eqb-true m n h) e
 
 fits-overlap : (a b : Exact) (x : ℕ) → exactFits a x ≡ true → exactFits b x ≡ true → exactOverlaps a b ≡ true
-fits-overlap Any b x e k = refl
-fits-overlap (Is m) Any x e k = refl
-fits-overlap (Is m) (Is n) x e k = eq-eqb m n (eqb-true m x e ∙ sym (eqb-true n x k))
+fits-overlap Exact.Any b x e k = refl
+fits-overlap (Exact.Is m) Exact.Any x e k = refl
+fits-overlap (Exact.Is m) (Exact.Is n) x e k = eq-eqb m n (eqb-true m x e ∙ sym (eqb-true n x k))
 
 meet-fits : (a b : Exact) → exactOverlaps a b ≡ true → (x : ℕ) → exactFits (exactMeet a b) x ≡ exactFits a x && exactFits b x
-meet-fits Any b h x = refl
-meet-fits (Is m) Any h x = and-absorb (eqb m x) true (λ e. refl)
-meet-fits (Is m) (Is n) h x = and-absorb (eqb m x) (eqb n x) (λ e. rw (← eqb-true m n h) e)
+meet-fits Exact.Any b h x = refl
+meet-fits (Exact.Is m) Exact.Any h x = and-absorb (eqb m x) true (λ e. refl)
+meet-fits (Exact.Is m) (Exact.Is n) h x = and-absorb (eqb m x) (eqb n x) (λ e. rw (← eqb-true m n h) e)
 
 module _ (w : ℕ) (two : 2 ≤ w) where
   other : (n : ℕ) → (x : ℕ) × (x < w) × (eqb n x ≡ false)
@@ -36,19 +36,19 @@ module _ (w : ℕ) (two : 2 ≤ w) where
   other (suc n) = (0, omega arith, ne-eqb (suc n) 0 (omega arith))
 
   point-ok : (a : Exact) → ExactInRange w a → exactPoint a < w
-  point-ok Any k = omega arith
-  point-ok (Is n) k = k
+  point-ok Exact.Any k = omega arith
+  point-ok (Exact.Is n) k = k
 
   meet-ok : (a b : Exact) → ExactInRange w a → ExactInRange w b → ExactInRange w (exactMeet a b)
-  meet-ok Any b k l = l
-  meet-ok (Is m) b k l = k
+  meet-ok Exact.Any b k l = l
+  meet-ok (Exact.Is m) b k l = k
 
   tells : (a b : Exact) → exactWithin a b ≡ false
       → (x : ℕ) × (exactFits a x ≡ true) × (exactFits b x ≡ false) × (ExactInRange w a → ExactInRange w b → x < w)
-  tells Any Any e = absurd (true≢false e)
-  tells (Is m) Any e = absurd (true≢false e)
-  tells Any (Is n) e = let o = other n in (o .0, refl, o .2, λ i j. o .1)
-  tells (Is m) (Is n) e = (m, eq-eqb m m refl, ne-eqb n m (λ q. eqb-false m n e (sym q)), λ i j. i)
+  tells Exact.Any Exact.Any e = absurd (true≢false e)
+  tells (Exact.Is m) Exact.Any e = absurd (true≢false e)
+  tells Exact.Any (Exact.Is n) e = let o = other n in (o .0, refl, o .2, λ i j. o .1)
+  tells (Exact.Is m) (Exact.Is n) e = (m, eq-eqb m m refl, ne-eqb n m (λ q. eqb-false m n e (sym q)), λ i j. i)
 
   pub exact-field : IsField (ExactInRange w) (λ x. x < w) exactFits exactWithin exactOverlaps exactMeet exactPoint
   exact-field = record {

@@ -6,73 +6,73 @@ use Prim.Native.Nat.{ℕ, _<_}
 use native.Mathlib.Omega.{arith}
 use lib.Dec.{ltb}
 use borrow.Author.Tests.{lt-ltb, le-ltb, ltb-true, ltb-false}
-use Rattle.flow.specs.Types.{Ordering, Less, Equal, Greater}
+use Rattle.flow.specs.Types.{Ordering}
 use Rattle.flow.specs.Entries.{orderOf, thenBy, lexical}
 use Rattle.flow.proofs.Booleans.{split}
 
 abbrev pub opposite : Ordering → Ordering
-opposite Less = Greater
-opposite Equal = Equal
-opposite Greater = Less
+opposite Ordering.Less = Ordering.Greater
+opposite Ordering.Equal = Ordering.Equal
+opposite Ordering.Greater = Ordering.Less
 
 -- a strict total order: equal only where the values are, opposite when swapped, transitive
 pub record IsOrder (A : Type 0) (c : A → A → Ordering) : Type 0 where
-  pub same : (a b : A) → c a b ≡ Equal → a ≡ b
-  pub self : (a : A) → c a a ≡ Equal
+  pub same : (a b : A) → c a b ≡ Ordering.Equal → a ≡ b
+  pub self : (a : A) → c a a ≡ Ordering.Equal
   pub turn : (a b : A) → c b a ≡ opposite (c a b)
-  pub chain : (a b d : A) → c a b ≡ Less → c b d ≡ Less → c a d ≡ Less
+  pub chain : (a b d : A) → c a b ≡ Ordering.Less → c b d ≡ Ordering.Less → c a d ≡ Ordering.Less
 
-pub equal≢less : Equal ≡ Less → ⊥
+pub equal≢less : Ordering.Equal ≡ Ordering.Less → ⊥
 equal≢less p = let z : _≡_ {A = ℕ} 0 1 = cc in omega arith
 
-greater≢less : Greater ≡ Less → ⊥
+greater≢less : Ordering.Greater ≡ Ordering.Less → ⊥
 greater≢less p = let z : _≡_ {A = ℕ} 0 1 = cc in omega arith
 
-less≢equal : Less ≡ Equal → ⊥
+less≢equal : Ordering.Less ≡ Ordering.Equal → ⊥
 less≢equal p = let z : _≡_ {A = ℕ} 0 1 = cc in omega arith
 
-greater≢equal : Greater ≡ Equal → ⊥
+greater≢equal : Ordering.Greater ≡ Ordering.Equal → ⊥
 greater≢equal p = let z : _≡_ {A = ℕ} 0 1 = cc in omega arith
 
 then-turn : (o p : Ordering) → thenBy (opposite o) (opposite p) ≡ opposite (thenBy o p)
 unfolding thenBy
-then-turn Less p = refl
-then-turn Equal p = refl
-then-turn Greater p = refl
+then-turn Ordering.Less p = refl
+then-turn Ordering.Equal p = refl
+then-turn Ordering.Greater p = refl
 
-then-equal : (o p : Ordering) → thenBy o p ≡ Equal → (o ≡ Equal) × (p ≡ Equal)
+then-equal : (o p : Ordering) → thenBy o p ≡ Ordering.Equal → (o ≡ Ordering.Equal) × (p ≡ Ordering.Equal)
 unfolding thenBy
-then-equal Less p e = absurd (less≢equal e)
-then-equal Equal p e = (refl, e)
-then-equal Greater p e = absurd (greater≢equal e)
+then-equal Ordering.Less p e = absurd (less≢equal e)
+then-equal Ordering.Equal p e = (refl, e)
+then-equal Ordering.Greater p e = absurd (greater≢equal e)
 
 -- the chain law of two comparisons one after the other, from that of the second
 module _ {A : Type 0} {c : A → A → Ordering} (C : IsOrder A c) where
-  then-chain : (x y z : A) (p q r : Ordering) → (p ≡ Less → q ≡ Less → r ≡ Less) → thenBy (c x y) p ≡ Less → thenBy (c y z) q ≡ Less → thenBy (c x z) r ≡ Less
+  then-chain : (x y z : A) (p q r : Ordering) → (p ≡ Ordering.Less → q ≡ Ordering.Less → r ≡ Ordering.Less) → thenBy (c x y) p ≡ Ordering.Less → thenBy (c y z) q ≡ Ordering.Less → thenBy (c x z) r ≡ Ordering.Less
   unfolding thenBy
   then-chain x y z p q r h = go (c x y) refl (c y z) refl
     where
-      go : (o : Ordering) → c x y ≡ o → (o′ : Ordering) → c y z ≡ o′ → thenBy o p ≡ Less → thenBy o′ q ≡ Less → thenBy (c x z) r ≡ Less
-      go Less e Less e′ k k′ = rw (C .chain x y z e e′) refl
-      go Less e Equal e′ k k′ = rw (← C .same y z e′, e) refl
-      go Less e Greater e′ k k′ = absurd (greater≢less k′)
-      go Equal e Less e′ k k′ = rw (C .same x y e, e′) refl
-      go Equal e Equal e′ k k′ = rw (C .same x y e, e′) (h k k′)
-      go Equal e Greater e′ k k′ = absurd (greater≢less k′)
-      go Greater e Less e′ k k′ = absurd (greater≢less k)
-      go Greater e Equal e′ k k′ = absurd (greater≢less k)
-      go Greater e Greater e′ k k′ = absurd (greater≢less k)
+      go : (o : Ordering) → c x y ≡ o → (o′ : Ordering) → c y z ≡ o′ → thenBy o p ≡ Ordering.Less → thenBy o′ q ≡ Ordering.Less → thenBy (c x z) r ≡ Ordering.Less
+      go Ordering.Less e Ordering.Less e′ k k′ = rw (C .chain x y z e e′) refl
+      go Ordering.Less e Ordering.Equal e′ k k′ = rw (← C .same y z e′, e) refl
+      go Ordering.Less e Ordering.Greater e′ k k′ = absurd (greater≢less k′)
+      go Ordering.Equal e Ordering.Less e′ k k′ = rw (C .same x y e, e′) refl
+      go Ordering.Equal e Ordering.Equal e′ k k′ = rw (C .same x y e, e′) (h k k′)
+      go Ordering.Equal e Ordering.Greater e′ k k′ = absurd (greater≢less k′)
+      go Ordering.Greater e Ordering.Less e′ k k′ = absurd (greater≢less k)
+      go Ordering.Greater e Ordering.Equal e′ k k′ = absurd (greater≢less k)
+      go Ordering.Greater e Ordering.Greater e′ k k′ = absurd (greater≢less k)
 
 -- ---- numbers
-number-less : {a b : ℕ} → a < b → orderOf a b ≡ Less
+number-less : {a b : ℕ} → a < b → orderOf a b ≡ Ordering.Less
 unfolding orderOf
 number-less {a} {b} h = rw (lt-ltb a b h)
 
-pub number-equal : {a b : ℕ} → a ≡ b → orderOf a b ≡ Equal
+pub number-equal : {a b : ℕ} → a ≡ b → orderOf a b ≡ Ordering.Equal
 unfolding orderOf
 number-equal {a} {b} h = rw (le-ltb a b (omega arith), le-ltb b a (omega arith))
 
-number-greater : {a b : ℕ} → b < a → orderOf a b ≡ Greater
+number-greater : {a b : ℕ} → b < a → orderOf a b ≡ Ordering.Greater
 unfolding orderOf
 number-greater {a} {b} h = rw (le-ltb a b (omega arith), lt-ltb b a h)
 
@@ -80,16 +80,16 @@ number-greater {a} {b} h = rw (le-ltb a b (omega arith), lt-ltb b a h)
 three : {G : Type 0} (a b : ℕ) → (a < b → G) → (a ≡ b → G) → (b < a → G) → G
 three a b f g h = split (ltb a b) (λ e. f (ltb-true a b e)) (λ e. split (ltb b a) (λ k. h (ltb-true b a k)) (λ k. g (omega (arith, ltb-false a b e, ltb-false b a k))))
 
-less-number : (a b : ℕ) → orderOf a b ≡ Less → a < b
+less-number : (a b : ℕ) → orderOf a b ≡ Ordering.Less → a < b
 less-number a b e = three a b (λ h. h) (λ h. absurd (equal≢less (sym (number-equal h) ∙ e))) (λ h. absurd (greater≢less (sym (number-greater h) ∙ e)))
 
-equal-number : (a b : ℕ) → orderOf a b ≡ Equal → a ≡ b
+equal-number : (a b : ℕ) → orderOf a b ≡ Ordering.Equal → a ≡ b
 equal-number a b e = three a b (λ h. absurd (less≢equal (sym (number-less h) ∙ e))) (λ h. h) (λ h. absurd (greater≢equal (sym (number-greater h) ∙ e)))
 
 number-turn : (a b : ℕ) → orderOf b a ≡ opposite (orderOf a b)
 number-turn a b = three a b (λ h. number-greater h ∙ sym (ap opposite (number-less h))) (λ h. number-equal (sym h) ∙ sym (ap opposite (number-equal h))) (λ h. number-less h ∙ sym (ap opposite (number-greater h)))
 
-number-chain : (a b d : ℕ) → orderOf a b ≡ Less → orderOf b d ≡ Less → orderOf a d ≡ Less
+number-chain : (a b d : ℕ) → orderOf a b ≡ Ordering.Less → orderOf b d ≡ Ordering.Less → orderOf a d ≡ Ordering.Less
 number-chain a b d e f = let h = less-number a b e in let k = less-number b d f in number-less (omega arith)
 
 pub rising : IsOrder ℕ orderOf
@@ -104,13 +104,13 @@ falling = record {
 }
 
 -- ---- lists of numbers
-lexical-same : (s t : List ℕ) → lexical s t ≡ Equal → s ≡ t
+lexical-same : (s t : List ℕ) → lexical s t ≡ Ordering.Equal → s ≡ t
 lexical-same [] [] e = refl
 lexical-same [] (y ∷ ys) e = absurd (less≢equal e)
 lexical-same (x ∷ xs) [] e = absurd (greater≢equal e)
 lexical-same (x ∷ xs) (y ∷ ys) e = let h = then-equal (orderOf x y) (lexical xs ys) e in rw (equal-number x y (h .0), lexical-same xs ys (h .1)) refl
 
-lexical-self : (s : List ℕ) → lexical s s ≡ Equal
+lexical-self : (s : List ℕ) → lexical s s ≡ Ordering.Equal
 unfolding thenBy
 lexical-self [] = refl
 lexical-self (x ∷ xs) = rw (number-equal {a = x} {b = x} refl) (lexical-self xs)
@@ -121,7 +121,7 @@ lexical-turn [] (y ∷ ys) = refl
 lexical-turn (x ∷ xs) [] = refl
 lexical-turn (x ∷ xs) (y ∷ ys) = rw (number-turn x y, lexical-turn xs ys) (then-turn (orderOf x y) (lexical xs ys))
 
-lexical-chain : (s t u : List ℕ) → lexical s t ≡ Less → lexical t u ≡ Less → lexical s u ≡ Less
+lexical-chain : (s t u : List ℕ) → lexical s t ≡ Ordering.Less → lexical t u ≡ Ordering.Less → lexical s u ≡ Ordering.Less
 lexical-chain [] [] u e f = absurd (equal≢less e)
 lexical-chain [] (y ∷ ys) [] e f = absurd (greater≢less f)
 lexical-chain [] (y ∷ ys) (z ∷ zs) e f = refl

@@ -4,30 +4,30 @@ use mathlib.Core.Bool.{Bool, true, false, _&&_, cond}
 use mathlib.Core.List.{List, [], _∷_}
 use Prim.Native.Nat.{ℕ, _+_, _<_}
 use lib.Dec.{eqb, ltb}
-use Rattle.flow.specs.Types.{Exact, Any, Is, Prefix, Match, Action, Drop, Controller, Port, Key, Entry, Ordering, Less, Equal, Greater}
+use Rattle.flow.specs.Types.{Exact, Prefix, Match, Action, Key, Entry, Ordering}
 use Rattle.flow.specs.Matches.{MatchInRange}
 
 -- the order of two numbers
 unfoldable pub orderOf : ℕ → ℕ → Ordering
-orderOf a b = cond (ltb a b) Less (cond (ltb b a) Greater Equal)
+orderOf a b = cond (ltb a b) Ordering.Less (cond (ltb b a) Ordering.Greater Ordering.Equal)
 
 -- a comparison, and where that finds no difference another
 unfoldable pub thenBy : Ordering → Ordering → Ordering
-thenBy Less o = Less
-thenBy Equal o = o
-thenBy Greater o = Greater
+thenBy Ordering.Less o = Ordering.Less
+thenBy Ordering.Equal o = o
+thenBy Ordering.Greater o = Ordering.Greater
 
 -- lists of numbers: the first difference decides, and a list's beginning stands before it
 abbrev pub lexical : List ℕ → List ℕ → Ordering
-lexical [] [] = Equal
-lexical [] (y ∷ ys) = Less
-lexical (x ∷ xs) [] = Greater
+lexical [] [] = Ordering.Equal
+lexical [] (y ∷ ys) = Ordering.Less
+lexical (x ∷ xs) [] = Ordering.Greater
 lexical (x ∷ xs) (y ∷ ys) = thenBy (orderOf x y) (lexical xs ys)
 
 -- `*` before numbers
 abbrev pub exactRank : Exact → ℕ
-exactRank Any = 0
-exactRank (Is a) = a + 1
+exactRank Exact.Any = 0
+exactRank (Exact.Is a) = a + 1
 
 -- what table order compares of a match, in its order
 unfoldable pub rank : Match → List ℕ
@@ -48,9 +48,9 @@ unfoldable pub keyOrder : Key → Key → Ordering
 keyOrder j k = thenBy (orderOf (k .priority) (j .priority)) (matchOrder (j .pattern) (k .pattern))
 
 abbrev pub isEqual : Ordering → Bool
-isEqual Less = false
-isEqual Equal = true
-isEqual Greater = false
+isEqual Ordering.Less = false
+isEqual Ordering.Equal = true
+isEqual Ordering.Greater = false
 
 -- the same key
 unfoldable pub sameKey : Key → Key → Bool
@@ -74,9 +74,9 @@ sameMatch m n =
 
 -- a number for each action; the same action
 abbrev pub actionCode : Action → ℕ
-actionCode Drop = 0
-actionCode Controller = 1
-actionCode (Port n) = n + 2
+actionCode Action.Drop = 0
+actionCode Action.Controller = 1
+actionCode (Action.Port n) = n + 2
 
 unfoldable pub sameAction : Action → Action → Bool
 sameAction a b = eqb (actionCode a) (actionCode b)
@@ -87,9 +87,9 @@ pub record KeyInRange (k : Key) : Type 0 where
   pub pattern : MatchInRange (k .pattern)
 
 abbrev pub ActionInRange : Action → Type 0
-ActionInRange Drop = Unit {0}
-ActionInRange Controller = Unit {0}
-ActionInRange (Port n) = n < 65536
+ActionInRange Action.Drop = Unit {0}
+ActionInRange Action.Controller = Unit {0}
+ActionInRange (Action.Port n) = n < 65536
 
 pub record EntryInRange (e : Entry) : Type 0 where
   pub key : KeyInRange (e .key)

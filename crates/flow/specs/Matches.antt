@@ -5,31 +5,31 @@ use mathlib.Core.Bool.{Bool, true, false, _&&_, cond}
 use Prim.Native.Nat.{ℕ, _-_, _^_, _≤_, _<_}
 use lib.Dec.{eqb, leb}
 use lib.Bits.{bitAnd, bitOr}
-use Rattle.flow.specs.Types.{Exact, Any, Is, Prefix, Match, Packet}
+use Rattle.flow.specs.Types.{Exact, Prefix, Match, Packet}
 
 -- a field that is `*` or a number: does a value fit, do two overlap, does one lie within another
 abbrev pub exactFits : Exact → ℕ → Bool
-exactFits Any x = true
-exactFits (Is a) x = eqb a x
+exactFits Exact.Any x = true
+exactFits (Exact.Is a) x = eqb a x
 
 abbrev pub exactOverlaps : Exact → Exact → Bool
-exactOverlaps Any b = true
-exactOverlaps (Is a) Any = true
-exactOverlaps (Is a) (Is b) = eqb a b
+exactOverlaps Exact.Any b = true
+exactOverlaps (Exact.Is a) Exact.Any = true
+exactOverlaps (Exact.Is a) (Exact.Is b) = eqb a b
 
 abbrev pub exactWithin : Exact → Exact → Bool
-exactWithin a Any = true
-exactWithin Any (Is b) = false
-exactWithin (Is a) (Is b) = eqb a b
+exactWithin a Exact.Any = true
+exactWithin Exact.Any (Exact.Is b) = false
+exactWithin (Exact.Is a) (Exact.Is b) = eqb a b
 
 -- what two that overlap have in common, and a value that fits
 abbrev pub exactMeet : Exact → Exact → Exact
-exactMeet Any b = b
-exactMeet (Is a) b = Is a
+exactMeet Exact.Any b = b
+exactMeet (Exact.Is a) b = Exact.Is a
 
 abbrev pub exactPoint : Exact → ℕ
-exactPoint Any = 0
-exactPoint (Is a) = a
+exactPoint Exact.Any = 0
+exactPoint (Exact.Is a) = a
 
 -- an address of which the bits of a mask count, any mask
 abbrev pub Masked : Type 0
@@ -134,8 +134,8 @@ packetOf m = record {
 
 -- ranges: port, sport, dport 0 to 65535; proto 0 to 255; addresses of 32 bits; lengths 0 to 32, bits past the length zero
 abbrev pub ExactInRange : ℕ → Exact → Type 0
-ExactInRange w Any = Unit {0}
-ExactInRange w (Is a) = a < w
+ExactInRange w Exact.Any = Unit {0}
+ExactInRange w (Exact.Is a) = a < w
 
 pub record PrefixInRange (p : Prefix) : Type 0 where
   pub value : p .value < 2 ^ 32

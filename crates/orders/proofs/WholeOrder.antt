@@ -11,7 +11,7 @@ use Rattle.table.specs.FlowTable.{Table, Sorted, effectOf, after, answer}
 use Rattle.table.proofs.Effects.{sorted-after}
 use Rattle.commute.specs.Commuting.{Agree, commutes}
 use Rattle.commute.proofs.Sound.{commutes-sound, agree-sym, idle-agree}
-use Rattle.orders.specs.Types.{Operation, Other, Barrier, Message, OnTable}
+use Rattle.orders.specs.Types.{Operation}
 use Rattle.orders.specs.Orders.{from, stands, IsOrderOf}
 use Rattle.orders.specs.Tables.{Tables, InOrder, switchOf, usesTable, stepOf, replyOf, endTables, answers, paired, listed}
 use Rattle.orders.proofs.OrderLaws.{Independent, Agrees, order-agrees}
@@ -54,10 +54,10 @@ module _ (e f : Operation) (agree : eqb (switchOf e) (switchOf f) ≡ true → (
       at false u = refl
 
 idle-left : (e f : Operation) → usesTable e ≡ false → (t : Table) → Sorted t → Agree (effectOf e) (effectOf f) t
-idle-left Other f h t s = idle-agree t s (effectOf f)
-idle-left (Barrier w) f h t s = idle-agree t s (effectOf f)
-idle-left (Message w) f h t s = idle-agree t s (effectOf f)
-idle-left (OnTable w o) f h t s = absurd (true≢false h)
+idle-left Operation.Other f h t s = idle-agree t s (effectOf f)
+idle-left (Operation.Barrier w) f h t s = idle-agree t s (effectOf f)
+idle-left (Operation.Message w) f h t s = idle-agree t s (effectOf f)
+idle-left (Operation.Table w o) f h t s = absurd (true≢false h)
 
 -- events that are neither ordered nor listed agree where they meet
 unlisted-agree : (e f : Operation) (o : Bool) → o ≡ false → (paired e f && (not o && not (commutes (effectOf e) (effectOf f)))) ≡ false

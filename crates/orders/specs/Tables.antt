@@ -7,7 +7,7 @@ use Prim.Native.Nat.{ℕ}
 use lib.Dec.{eqb}
 use Rattle.table.specs.FlowTable.{Table, Sorted, effectOf, after, answer}
 use Rattle.commute.specs.Commuting.{commutes}
-use Rattle.orders.specs.Types.{Operation, Other, Barrier, Message, OnTable, Answer}
+use Rattle.orders.specs.Types.{Operation, Answer}
 use Rattle.orders.specs.Orders.{run, replyIn}
 
 -- a table for each switch, by the switch's number
@@ -18,16 +18,16 @@ abbrev pub InOrder : Tables → Type 0
 InOrder s = (w : ℕ) → Sorted (s w)
 
 abbrev pub switchOf : Operation → ℕ
-switchOf Other = 0
-switchOf (Barrier w) = w
-switchOf (Message w) = w
-switchOf (OnTable w o) = w
+switchOf Operation.Other = 0
+switchOf (Operation.Barrier w) = w
+switchOf (Operation.Message w) = w
+switchOf (Operation.Table w o) = w
 
 abbrev pub usesTable : Operation → Bool
-usesTable Other = false
-usesTable (Barrier w) = false
-usesTable (Message w) = false
-usesTable (OnTable w o) = true
+usesTable Operation.Other = false
+usesTable (Operation.Barrier w) = false
+usesTable (Operation.Message w) = false
+usesTable (Operation.Table w o) = true
 
 -- an event does to its own switch's table what is said under Flow table; all other tables stay
 unfoldable pub stepOf : Operation → Tables → Tables

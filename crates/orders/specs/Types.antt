@@ -1,4 +1,3 @@
 -- The types that this crate's definitions speak of, under one name each.
 pub use Rattle.table.specs.declared.operation.Operation.{Operation}
-pub use Rattle.table.specs.declared.operation.Operation.the-variants.{Other, Barrier, Message, Table as OnTable}
 pub use Rattle.table.specs.declared.operation.Answer.{Answer}

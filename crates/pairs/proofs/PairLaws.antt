@@ -17,7 +17,7 @@ use Rattle.commute.specs.Commuting.{commutes}
 use Rattle.orders.specs.Tables.{paired}
 use Rattle.events.specs.Events.{eventAt}
 use Rattle.causality.specs.Causality.{before}
-use Rattle.pairs.specs.Types.{Operation, Event, Counts, Verdict, Unpaired, Ordered, Commuting, Listed}
+use Rattle.pairs.specs.Types.{Operation, Event, Counts, Verdict}
 use Rattle.pairs.specs.List.{Kind, pairs, ordered, commuting, listed, isKind, test, Pair, only, gather, cell, pairsWhere, ofKind, pairBytes, countsOf}
 use Rattle.verdicts.specs.Verdicts.{verdictOf}
 use Rattle.pairs.specs.Counting.{size, counts, countOf, Small, rowOf}
@@ -108,7 +108,7 @@ kindOf commuting p h m = p && (not h && m)
 kindOf listed p h m = p && (not h && not m)
 
 -- what a verdict counts for
-judged : (k : Kind) (p h m : Bool) → counts k (cond p (cond h Ordered (cond m Commuting Listed)) Unpaired) ≡ kindOf k p h m
+judged : (k : Kind) (p h m : Bool) → counts k (cond p (cond h Verdict.Ordered (cond m Verdict.Commuting Verdict.Listed)) Verdict.Unpaired) ≡ kindOf k p h m
 judged pairs true true m = refl
 judged pairs true false true = refl
 judged pairs true false false = refl

@@ -17,7 +17,7 @@ use Rattle.orders.specs.Tables.{usesTable, switchOf, paired, listed as listedUn
 use Rattle.events.specs.Events.{eventAt}
 use Rattle.causality.specs.Causality.{before}
 use Rattle.causality.proofs.Chains.{before-iff, chain-later}
-use Rattle.pairs.specs.Types.{TableOperation, Operation, Other, Barrier, Message, OnTable, Event}
+use Rattle.pairs.specs.Types.{TableOperation, Operation, Event}
 use Rattle.pairs.specs.List.{listed, test, listOf}
 use Rattle.pairs.specs.Racing.{Racing, EventsInRange}
 use Rattle.pairs.proofs.Members.{pairs-in}
@@ -34,14 +34,14 @@ record Paired (o p : Operation) : Type 0 where
   switch : ℕ
   first : TableOperation
   second : TableOperation
-  lower-is : o ≡ OnTable switch first
-  higher-is : p ≡ OnTable switch second
+  lower-is : o ≡ Operation.Table switch first
+  higher-is : p ≡ Operation.Table switch second
 
-used : (o : Operation) → usesTable o ≡ true → (w : ℕ) × (t : TableOperation) × (o ≡ OnTable w t)
-used Other e = absurd (true≢false (sym e))
-used (Barrier w) e = absurd (true≢false (sym e))
-used (Message w) e = absurd (true≢false (sym e))
-used (OnTable w t) e = (w, t, refl)
+used : (o : Operation) → usesTable o ≡ true → (w : ℕ) × (t : TableOperation) × (o ≡ Operation.Table w t)
+used Operation.Other e = absurd (true≢false (sym e))
+used (Operation.Barrier w) e = absurd (true≢false (sym e))
+used (Operation.Message w) e = absurd (true≢false (sym e))
+used (Operation.Table w t) e = (w, t, refl)
 
 paired-are : (o p : Operation) → paired o p ≡ true → Paired o p
 unfolding paired
@@ -51,7 +51,7 @@ paired-are o p e =
     let a = used o (and-left (usesTable o) rest e) in
     let b = used p (and-left (usesTable p) (eqb (switchOf o) (switchOf p)) more) in
     let same : b .0 ≡ a .0 = sym (ap switchOf (b .2)) ∙ sym (eqb-true (switchOf o) (switchOf p) (and-right (usesTable p) (eqb (switchOf o) (switchOf p)) more)) ∙ ap switchOf (a .2) in
-    record { switch = a .0; first = a .1; second = b .1; lower-is = a .2; higher-is = b .2 ∙ ap (λ (w : ℕ). OnTable w (b .1)) same }
+    record { switch = a .0; first = a .1; second = b .1; lower-is = a .2; higher-is = b .2 ∙ ap (λ (w : ℕ). Operation.Table w (b .1)) same }
 
 are-paired : (o p : Operation) → Paired o p → paired o p ≡ true
 unfolding paired

@@ -6,7 +6,7 @@ use Prim.Native.Nat.{ℕ, zero, suc, _+_, _-_, _*_, _/_, _≤_}
 use lib.Dec.{eqb}
 use Rattle.orders.specs.Tables.{usesTable, switchOf}
 use Rattle.events.specs.Events.{eventAt}
-use Rattle.pairs.specs.Types.{Operation, Event, Counts, Verdict, Unpaired, Ordered, Commuting, Listed}
+use Rattle.pairs.specs.Types.{Operation, Event, Counts, Verdict}
 use Rattle.pairs.specs.List.{Kind, pairs, ordered, commuting, listed, gather, cell, test, Pair}
 
 abbrev pub size : Bool → ℕ
@@ -37,22 +37,22 @@ choose n = n * (n - 1) / 2
 
 -- a verdict counts for a kind
 abbrev pub counts : Kind → Verdict → Bool
-counts pairs Unpaired = false
-counts pairs Ordered = true
-counts pairs Commuting = true
-counts pairs Listed = true
-counts ordered Unpaired = false
-counts ordered Ordered = true
-counts ordered Commuting = false
-counts ordered Listed = false
-counts commuting Unpaired = false
-counts commuting Ordered = false
-counts commuting Commuting = true
-counts commuting Listed = false
-counts listed Unpaired = false
-counts listed Ordered = false
-counts listed Commuting = false
-counts listed Listed = true
+counts pairs Verdict.Unpaired = false
+counts pairs Verdict.Ordered = true
+counts pairs Verdict.Commuting = true
+counts pairs Verdict.Listed = true
+counts ordered Verdict.Unpaired = false
+counts ordered Verdict.Ordered = true
+counts ordered Verdict.Commuting = false
+counts ordered Verdict.Listed = false
+counts commuting Verdict.Unpaired = false
+counts commuting Verdict.Ordered = false
+counts commuting Verdict.Commuting = true
+counts commuting Verdict.Listed = false
+counts listed Verdict.Unpaired = false
+counts listed Verdict.Ordered = false
+counts listed Verdict.Commuting = false
+counts listed Verdict.Listed = true
 
 abbrev pub countOf : Kind → Counts → ℕ
 countOf pairs c = c .pairs

@@ -8,7 +8,7 @@ use Rattle.table.specs.FlowTable.{Table, Sorted, TableInRange, effectOf, tableE
 use Rattle.commute.specs.Commuting.{Agree, EffectInRange}
 use Rattle.events.specs.Events.{eventAt}
 use Rattle.causality.specs.Causality.{step, Chain}
-use Rattle.pairs.specs.Types.{TableOperation, OnTable, Event}
+use Rattle.pairs.specs.Types.{TableOperation, Event, Operation}
 
 -- events i and j of a trace, i the lower, use the table of one switch; no chain of steps leads from one to the other; and on some
 -- table, in order and in range, their two orders do not agree
@@ -18,8 +18,8 @@ pub record Racing (es : List Event) (i j : ℕ) : Type 0 where
   pub switch : ℕ
   pub first : TableOperation
   pub second : TableOperation
-  pub lower-is : eventAt es i .operation ≡ OnTable switch first
-  pub higher-is : eventAt es j .operation ≡ OnTable switch second
+  pub lower-is : eventAt es i .operation ≡ Operation.Table switch first
+  pub higher-is : eventAt es j .operation ≡ Operation.Table switch second
   pub unordered : Chain (step es) i j → ⊥
   pub unordered-back : Chain (step es) j i → ⊥
   pub table : Table

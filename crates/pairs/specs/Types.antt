@@ -1,9 +1,7 @@
 -- The types that this crate's definitions speak of, under one name each.
 pub use Rattle.table.specs.declared.operation.TableOperation.{TableOperation}
 pub use Rattle.table.specs.declared.operation.Operation.{Operation}
-pub use Rattle.table.specs.declared.operation.Operation.the-variants.{Other, Barrier, Message, Table as OnTable}
 pub use Rattle.events.specs.declared.event.Event.{Event}
 pub use Rattle.events.specs.declared.trace.Trace.{Trace}
 pub use Rattle.pairs.specs.declared.counts.Counts.{Counts}
 pub use Rattle.verdicts.specs.declared.verdict.Verdict.{Verdict}
-pub use Rattle.verdicts.specs.declared.verdict.Verdict.the-variants.{Unpaired, Ordered, Commuting, Listed}

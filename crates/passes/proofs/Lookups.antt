@@ -12,7 +12,7 @@ use lib.ListN.{length}
 use borrow.Author.Tests.{ltb-true, ltb-false, eqb-true, eqb-false, lt-ltb, le-ltb, eq-eqb, ne-eqb}
 use Rattle.flow.proofs.Booleans.{split}
 use Rattle.table.specs.FlowTable.{Table, admits, fitting, highest, atPriority, best}
-use Rattle.rows.specs.Types.{Action, Packet, Entry, Answer, Miss, Hit}
+use Rattle.rows.specs.Types.{Action, Packet, Entry, Answer}
 use Rattle.rows.specs.declared.row.Row.{Row}
 use Rattle.rows.specs.Rows.{tableOf, onSwitch}
 use Rattle.passes.specs.Passes.{seenAt, seen}
@@ -22,7 +22,7 @@ abbrev seenAll : Answer → Table → Answer
 seenAll h [] = h
 seenAll h (e ∷ t) = seenAll (seen h e) t
 
-best-cons : (e : Entry) (t : Table) → best (e ∷ t) ≡ cond (ltb (e .key .priority) (highest t)) (best t) (Hit (e .key .priority) (suc (length (atPriority (e .key .priority) t))) (e .action))
+best-cons : (e : Entry) (t : Table) → best (e ∷ t) ≡ cond (ltb (e .key .priority) (highest t)) (best t) (Answer.Hit (e .key .priority) (suc (length (atPriority (e .key .priority) t))) (e .action))
 unfolding best
 best-cons e t =
     split (ltb (e .key .priority) (highest t))
@@ -32,7 +32,7 @@ best-cons e t =
 
 -- what the pass makes of the rest of a table
 Rest : ℕ → ℕ → Action → Table → Type 0
-Rest b n a t = seenAll (Hit b n a) t ≡ cond (ltb b (highest t)) (best t) (Hit b (n + length (atPriority b t)) a)
+Rest b n a t = seenAll (Answer.Hit b n a) t ≡ cond (ltb b (highest t)) (best t) (Answer.Hit b (n + length (atPriority b t)) a)
 
 -- an entry of no higher priority leaves the highest of the rest what counts
 below-max : (b p h : ℕ) → p ≤ b → ltb b (max p h) ≡ ltb b h
@@ -54,7 +54,7 @@ module _ (b n : ℕ) (a : Action) (e : Entry) (t : Table) where
       rw (le-ltb b (e .key .priority) (omega arith), eq-eqb b (e .key .priority) h, below-max b (e .key .priority) (highest t) (omega arith), eq-eqb (e .key .priority) b (sym h))
       (r ∙ split (ltb b (highest t))
       (λ u. rw u (sym (best-cons e t ∙ rw (ap (λ k. ltb k (highest t)) (sym h) ∙ u) refl)))
-      (λ u. rw u (ap (λ k. Hit b k a) (omega arith))))
+      (λ u. rw u (ap (λ k. Answer.Hit b k a) (omega arith))))
 
   rest-lower : e .key .priority < b → Rest b n a t → Rest b n a (e ∷ t)
   unfolding Rest seen seenAt
@@ -74,7 +74,7 @@ seen-rest b n a (e ∷ t) =
     (λ v. rest-same b n a e t (eqb-true b (e .key .priority) v) (seen-rest b (n + 1) a t))
     (λ v. rest-lower b n a e t (omega (arith, ltb-false b (e .key .priority) u, eqb-false b (e .key .priority) v)) (seen-rest b n a t)))
 
-seen-best : (t : Table) → seenAll Miss t ≡ best t
+seen-best : (t : Table) → seenAll Answer.Miss t ≡ best t
 unfolding best Rest seen
 seen-best [] = refl
 seen-best (e ∷ t) = seen-rest (e .key .priority) 1 (e .action) t ∙ rw one-add (sym (best-cons e t))
@@ -111,5 +111,5 @@ module _ (w : ℕ) (p : Packet) where
       go false c v ih = ih h
 
   -- the whole pass answers what is said under Flow table
-  pub lookup-best : (rs : List Row) → seenRows (onSwitch w (admits p)) Miss rs ≡ best (fitting p (tableOf w rs))
-  lookup-best rs = seen-rows Miss rs ∙ seen-best (fitting p (tableOf w rs))
+  pub lookup-best : (rs : List Row) → seenRows (onSwitch w (admits p)) Answer.Miss rs ≡ best (fitting p (tableOf w rs))
+  lookup-best rs = seen-rows Answer.Miss rs ∙ seen-best (fitting p (tableOf w rs))

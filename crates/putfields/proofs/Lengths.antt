@@ -3,13 +3,13 @@ use Prim.Native.Nat.{_≤_}
 use native.Mathlib.Omega.{arith}
 use lib.ListN.{length, length-append}
 use Rattle.digits.proofs.Writing.{print-length, hex-length}
-use Rattle.fields.specs.Types.{Exact, Any, Is, Prefix, Match, Action, Drop, Controller, Port, Key, Entry}
+use Rattle.fields.specs.Types.{Exact, Prefix, Match, Action, Key, Entry}
 use Rattle.fields.specs.Print.{printExact, printPrefix, printLast, printSix, printMatch, printAction, printKey, printEntry}
 
 exact-length : (x : Exact) → length (printExact x) ≤ 10
 unfolding printExact
-exact-length Any = omega arith
-exact-length (Is v) = print-length v
+exact-length Exact.Any = omega arith
+exact-length (Exact.Is v) = print-length v
 
 prefix-length : (p : Prefix) → length (printPrefix p) ≤ 19
 unfolding printPrefix
@@ -29,9 +29,9 @@ match-length m = simp length-append (omega (
 
 pub action-length : (a : Action) → length (printAction a) ≤ 11
 unfolding printAction
-action-length Drop = omega arith
-action-length Controller = omega arith
-action-length (Port n) = omega (arith, print-length n)
+action-length Action.Drop = omega arith
+action-length Action.Controller = omega arith
+action-length (Action.Port n) = omega (arith, print-length n)
 
 pub key-length : (k : Key) → length (printKey k) ≤ 131
 unfolding printKey

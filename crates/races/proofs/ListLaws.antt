@@ -13,7 +13,7 @@ use Rattle.events.specs.Events.{eventsOf}
 use Rattle.trace.specs.TraceText.{readTrace, asOutcome, asTrace}
 use Rattle.pairs.specs.List.{listed, listOf, count, pairBytes, needed, countsOf}
 use Rattle.pairs.proofs.PairLaws.{bytes-length}
-use Rattle.races.specs.Types.{Event, Trace, Counts, Refusal, ListAnswer, Counted, Refused, ListShort, Outcome, TraceRead}
+use Rattle.races.specs.Types.{Event, Trace, Counts, Refusal, ListAnswer, Outcome, TraceRead}
 use Rattle.races.proofs.Sizes.{count-most}
 use Rattle.races.specs.Races.{answerFor, bufferAfter, answerTo, bufferOf, listAnswer, listBuffer}
 
@@ -42,7 +42,7 @@ pub list-room : (buffer list bytes : List ℕ) {n : ℕ} → length buffer ≡ 1
 list-room buffer list bytes h e l = omega (arith, ap length e, length-sets buffer 0 bytes)
 
 module _ (es : List Event) (c : Counts) (e : c ≡ countsOf es) (old : List ℕ) where
-  pub list-short : length old < 2 * c .listed → (Refused (ListShort (2 * c .listed)) ≡ answerFor es (length old)) × (old ≡ bufferAfter es old)
+  pub list-short : length old < 2 * c .listed → (ListAnswer.Refused (Refusal.ListShort (2 * c .listed)) ≡ answerFor es (length old)) × (old ≡ bufferAfter es old)
   unfolding answerFor bufferAfter
   list-short l =
       let t : ltb (length old) (needed es) ≡ true = lt-ltb (length old) (needed es) (omega (arith, needed-is es c e)) in
@@ -56,19 +56,19 @@ module _ (es : List Event) (c : Counts) (e : c ≡ countsOf es) (old : List ℕ)
 
   pub list-done : (buffer list src out : List ℕ) → list ≡ sets buffer 0 (pairBytes (listOf es)) → length buffer ≡ 131072 → 2 * c .listed ≤ 131072 → 2 * c .listed ≤ length old
       → src ≡ take (2 * c .listed) list → out ≡ take (length src) src ++ drop (length src) old
-      → (Counted c ≡ answerFor es (length old)) × (out ≡ bufferAfter es old)
+      → (ListAnswer.Counts c ≡ answerFor es (length old)) × (out ≡ bufferAfter es old)
   unfolding answerFor bufferAfter
   list-done buffer list src out h b l m s o =
       let t : ltb (length old) (needed es) ≡ false = le-ltb (length old) (needed es) (omega (arith, needed-is es c e)) in
       let w : src ≡ pairBytes (listOf es) = s ∙ made buffer list h (omega arith) in (
-        rw t (ap Counted e),
+        rw t (ap ListAnswer.Counts e),
         rw t (o ∙ ap (λ (x : List ℕ). x ++ drop (length src) old) (take-all (length src) src (omega arith) ∙ w)
             ∙ ap (λ (n : ℕ). pairBytes (listOf es) ++ drop n old) (ap length w ∙ bytes-needed es)),
       )
 
 -- the call on a text, by the outcome of reading it
 module _ (text : List ℕ) (read : TraceRead) (e : asTrace read ≡ readTrace text) where
-  pub call-refused : (r : Refusal) (old : List ℕ) → read .outcome ≡ Outcome.Refused r → (Refused r ≡ listAnswer text (length old)) × (old ≡ listBuffer text old)
+  pub call-refused : (r : Refusal) (old : List ℕ) → read .outcome ≡ Outcome.Refused r → (ListAnswer.Refused r ≡ listAnswer text (length old)) × (old ≡ listBuffer text old)
   unfolding listAnswer listBuffer
   call-refused r old f =
       let g : inl r ≡ readTrace text = sym (ap (λ (o : Outcome). asOutcome o (eventsOf (read .trace))) f) ∙ e in

@@ -7,11 +7,11 @@ use lib.Dec.{ltb}
 use lib.ListN.{length, drop}
 use Rattle.pairs.specs.List.{listOf, pairBytes, needed, countsOf}
 use Rattle.trace.specs.TraceText.{readTrace}
-use Rattle.races.specs.Types.{Event, Refusal, ListAnswer, Counted, Refused, ListShort}
+use Rattle.races.specs.Types.{Event, Refusal, ListAnswer}
 
 -- for the events of an accepted trace and a buffer of so many bytes: too short, the bytes needed; else the four counts
 unfoldable pub answerFor : List Event → ℕ → ListAnswer
-answerFor es room = cond (ltb room (needed es)) (Refused (ListShort (needed es))) (Counted (countsOf es))
+answerFor es room = cond (ltb room (needed es)) (ListAnswer.Refused (Refusal.ListShort (needed es))) (ListAnswer.Counts (countsOf es))
 
 -- the buffer afterwards: too short, as it was; else the list from its start, and the bytes after it unchanged
 unfoldable pub bufferAfter : List Event → List ℕ → List ℕ
@@ -19,7 +19,7 @@ bufferAfter es old = cond (ltb (length old) (needed es)) old (pairBytes (listOf 
 
 -- a trace that is refused: its refusal, and the buffer as it was
 abbrev pub answerTo : Refusal ⊎ List Event → ℕ → ListAnswer
-answerTo (inl r) room = Refused r
+answerTo (inl r) room = ListAnswer.Refused r
 answerTo (inr es) room = answerFor es room
 
 abbrev pub bufferOf : Refusal ⊎ List Event → List ℕ → List ℕ

@@ -3,7 +3,7 @@ use mathlib.Core.List.{List, []}
 use Prim.Native.Nat.{ℕ}
 use lib.ListN.{getD}
 use Rattle.lines.specs.Lines.{lines}
-use Rattle.refusals.specs.Types.{Refusal, TraceTooLong, TraceUnended, TraceTooManyLines, TraceMalformed, EventMisnumbered, TraceAddressBit, TokenTwice, TokenTooEarly, TablesTooLong, TablesUnended, TablesTooManyLines, TablesMalformed, TablesAddressBit, KeyTwice, OrderIncomplete, EventTooEarly, ListShort, TablesShort, AnswersShort, TooManyEntries, Source, Neither, InTrace, InTables, Returned}
+use Rattle.refusals.specs.Types.{Refusal, Source, Returned}
 
 -- a row of the table: number, place, and the text of which the place is a line
 abbrev pub rowOf : ℕ → ℕ → Source → Returned
@@ -12,37 +12,37 @@ rowOf number place source = record { number = number; place = place; source = so
 -- the place is 0, a line, a position in the order, or the bytes needed
 abbrev pub returned : Refusal → Returned
 -- trace over 65,535 bytes / last byte not LF / over 256 lines
-returned TraceTooLong = rowOf 1 0 Neither
-returned TraceUnended = rowOf 2 0 Neither
-returned TraceTooManyLines = rowOf 3 0 Neither
+returned Refusal.TraceTooLong = rowOf 1 0 Source.Neither
+returned Refusal.TraceUnended = rowOf 2 0 Source.Neither
+returned Refusal.TraceTooManyLines = rowOf 3 0 Source.Neither
 -- line malformed, value outside range
-returned (TraceMalformed line) = rowOf 4 line InTrace
+returned (Refusal.TraceMalformed line) = rowOf 4 line Source.Trace
 -- `ev` isn't the line number
-returned (EventMisnumbered line) = rowOf 5 line InTrace
+returned (Refusal.EventMisnumbered line) = rowOf 5 line Source.Trace
 -- address bit past the prefix
-returned (TraceAddressBit line) = rowOf 6 line InTrace
+returned (Refusal.TraceAddressBit line) = rowOf 6 line Source.Trace
 -- token in `out` of two lines
-returned (TokenTwice later) = rowOf 7 later InTrace
+returned (Refusal.TokenTwice later) = rowOf 7 later Source.Trace
 -- `in` token whose `out` stands on this or a later line
-returned (TokenTooEarly line) = rowOf 8 line InTrace
+returned (Refusal.TokenTooEarly line) = rowOf 8 line Source.Trace
 -- tables: as 1, 2, 3, 4, 6
-returned TablesTooLong = rowOf 11 0 Neither
-returned TablesUnended = rowOf 12 0 Neither
-returned TablesTooManyLines = rowOf 13 0 Neither
-returned (TablesMalformed line) = rowOf 14 line InTables
-returned (TablesAddressBit line) = rowOf 15 line InTables
+returned Refusal.TablesTooLong = rowOf 11 0 Source.Neither
+returned Refusal.TablesUnended = rowOf 12 0 Source.Neither
+returned Refusal.TablesTooManyLines = rowOf 13 0 Source.Neither
+returned (Refusal.TablesMalformed line) = rowOf 14 line Source.Tables
+returned (Refusal.TablesAddressBit line) = rowOf 15 line Source.Tables
 -- tables: switch and key twice
-returned (KeyTwice later) = rowOf 16 later InTables
+returned (Refusal.KeyTwice later) = rowOf 16 later Source.Tables
 -- order's length wrong, or an event missing
-returned OrderIncomplete = rowOf 21 0 Neither
+returned Refusal.OrderIncomplete = rowOf 21 0 Source.Neither
 -- event put before one that happens before it
-returned (EventTooEarly position) = rowOf 22 position Neither
+returned (Refusal.EventTooEarly position) = rowOf 22 position Source.Neither
 -- list, tables, answers buffer too short
-returned (ListShort needed) = rowOf 31 needed Neither
-returned (TablesShort needed) = rowOf 32 needed Neither
-returned (AnswersShort needed) = rowOf 33 needed Neither
+returned (Refusal.ListShort needed) = rowOf 31 needed Source.Neither
+returned (Refusal.TablesShort needed) = rowOf 32 needed Source.Neither
+returned (Refusal.AnswersShort needed) = rowOf 33 needed Source.Neither
 -- over 512 entries held
-returned TooManyEntries = rowOf 41 0 Neither
+returned Refusal.TooManyEntries = rowOf 41 0 Source.Neither
 
 abbrev pub numberOf : Refusal → ℕ
 numberOf r = returned r .number
@@ -55,9 +55,9 @@ sourceOf r = returned r .source
 
 -- the text that the refused line is a part of; empty where the place is no line
 abbrev pub textIn : Source → List ℕ → List ℕ → List ℕ
-textIn Neither trace tables = []
-textIn InTrace trace tables = trace
-textIn InTables trace tables = tables
+textIn Source.Neither trace tables = []
+textIn Source.Trace trace tables = trace
+textIn Source.Tables trace tables = tables
 
 -- the refused line, without its LF; empty where the place is no line
 unfoldable pub lineOf : List ℕ → List ℕ → Refusal → List ℕ

@@ -12,7 +12,7 @@ use Rattle.rules.specs.TableText.{readTables, HoldSame}
 use Rattle.rules.proofs.Accepted.{accepted-sorted}
 use Rattle.schedule.specs.Schedule.{orderRefusal}
 use Rattle.schedule.proofs.Accepted.{accepted-iff, recorded-accepted}
-use Rattle.runs.specs.Types.{Silent}
+use Rattle.runs.specs.Types.{Answer}
 use Rattle.runs.specs.Runs.{operationAt, runRows, answersIn, givenOr}
 use Rattle.runs.proofs.EndTables.{run-tables, run-answers}
 use Rattle.replay.specs.Types.{Event, Row}
@@ -47,7 +47,7 @@ module _ (s : List ℕ) (es : List Event) (trace : readTrace s ≡ inr es) where
     -- of the table text, and its answers are theirs
     pub rows-are-tables : (o : List ℕ) → orderRefusal es o ≡ none
         → ((w : ℕ) → tableOf w (runRows es o rs) ≡ endTables (operationAt es) o (tablesOf rs) w)
-        × ((i : ℕ) → answersIn es o rs i ≡ givenOr Silent (answers (operationAt es) o (tablesOf rs) i))
+        × ((i : ℕ) → answersIn es o rs i ≡ givenOr Answer.Silent (answers (operationAt es) o (tablesOf rs) i))
     rows-are-tables o e =
         let sorted = accepted-sorted t rs tables in
         (run-tables es o rs sorted, run-answers es (length es) o (accepted-iff es o .0 e .0) rs sorted)

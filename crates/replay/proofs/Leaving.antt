@@ -17,7 +17,7 @@ use Rattle.answers.specs.Answers.{keptAt}
 use Rattle.runs.specs.Runs.{runRows}
 use Rattle.running.specs.Running.{RunsTo}
 use Rattle.runs.proofs.EndTables.{run-length}
-use Rattle.replay.specs.Types.{Refusal, Event, Trace, Row, Rows, Ran, ReplayAnswer, Refused}
+use Rattle.replay.specs.Types.{Refusal, Event, Trace, Row, Rows, Ran, ReplayAnswer}
 use Rattle.writing.specs.Writing.{Replayed, bothTexts, fitting, Leaves}
 use Rattle.writing.proofs.Leaving.{leaves-as, refused-as}
 use Rattle.replay.specs.Replay.{textsOf, ranFrom, unless, ordered, onward, replayed, replayAnswer, tablesAfter, answersAfter}
@@ -36,7 +36,7 @@ module _ (es : List Event) (o : List ℕ) (start : Rows) (ran : Ran) (runs : Run
 
 -- ---- 21, 22, or the run
 module _ (es : List Event) (rs : List Row) (o : List ℕ) (a b : ℕ) where
-  pub order-refused : {e : Refusal} {old old' : List ℕ} → some e ≡ orderRefusal es o → Leaves (ordered es rs o a b) (Refused e) old old old' old'
+  pub order-refused : {e : Refusal} {old old' : List ℕ} → some e ≡ orderRefusal es o → Leaves (ordered es rs o a b) (ReplayAnswer.Refused e) old old old' old'
   unfolding ordered
   order-refused p = refused-as (ap (λ x. unless x (ranFrom es rs o a b)) p)
 
@@ -53,7 +53,7 @@ order-short es o h p = omega (arith, accepted-iff es o .0 (sym p) .0 .size)
 
 -- ---- a text refused, or what follows
 module _ {A : Type 0} (next : A → Refusal ⊎ Replayed) {x : Refusal ⊎ A} where
-  pub text-refused : {e : Refusal} {old old' : List ℕ} → inl e ≡ x → Leaves (onward x next) (Refused e) old old old' old'
+  pub text-refused : {e : Refusal} {old old' : List ℕ} → inl e ≡ x → Leaves (onward x next) (ReplayAnswer.Refused e) old old old' old'
   text-refused p = refused-as (ap (λ y. onward y next) p)
 
   pub text-accepted : {a : A} {r : ReplayAnswer} {old new old' new' : List ℕ} → inr a ≡ x → Leaves (next a) r old new old' new' → Leaves (onward x next) r old new old' new'

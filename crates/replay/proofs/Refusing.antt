@@ -17,7 +17,7 @@ use Rattle.schedule.specs.Schedule.{orderRefusal}
 use Rattle.schedule.proofs.Accepted.{accepted-iff}
 use Rattle.runs.specs.Runs.{runRows}
 use Rattle.runs.proofs.EndTables.{run-length}
-use Rattle.replay.specs.Types.{Refusal, TablesShort, AnswersShort, Event, Row}
+use Rattle.replay.specs.Types.{Refusal, Event, Row}
 use Rattle.writing.specs.Writing.{Replayed, fitting, answerOf, tablesIn, answersAt}
 use Rattle.replay.specs.Replay.{textsOf, ranFrom, ordered, replayed, replayAnswer, tablesAfter, answersAfter, LongEnough, Writes}
 
@@ -35,13 +35,13 @@ module _ (s t o : List ℕ) (es : List Event) (rs : List Row) (trace : readTrace
   only-rooms a b = rw (trace, tables, order, le-ltb 512 (length (runRows es o rs)) at-most-512) refl
 
 -- the texts fit, or a buffer is too short
-rooms : {G : Type 0} (x : Replayed) (a b : ℕ) → (fitting x a b ≡ inl (TablesShort (length (x .tables))) → G) → (fitting x a b ≡ inl (AnswersShort (length (x .answers))) → G)
+rooms : {G : Type 0} (x : Replayed) (a b : ℕ) → (fitting x a b ≡ inl (Refusal.TablesShort (length (x .tables))) → G) → (fitting x a b ≡ inl (Refusal.AnswersShort (length (x .answers))) → G)
     → (fitting x a b ≡ inr x → G) → G
 unfolding fitting
 rooms {G} x a b f g h = go (ltb a (length (x .tables))) (ltb b (length (x .answers))) f g h
   where
-    go : (p q : Bool) → let y : Refusal ⊎ Replayed = cond p (inl (TablesShort (length (x .tables)))) (cond q (inl (AnswersShort (length (x .answers)))) (inr x)) in
-        (y ≡ inl (TablesShort (length (x .tables))) → G) → (y ≡ inl (AnswersShort (length (x .answers))) → G) → (y ≡ inr x → G) → G
+    go : (p q : Bool) → let y : Refusal ⊎ Replayed = cond p (inl (Refusal.TablesShort (length (x .tables)))) (cond q (inl (Refusal.AnswersShort (length (x .answers)))) (inr x)) in
+        (y ≡ inl (Refusal.TablesShort (length (x .tables))) → G) → (y ≡ inl (Refusal.AnswersShort (length (x .answers))) → G) → (y ≡ inr x → G) → G
     go true q f g h = f refl
     go false true f g h = g refl
     go false false f g h = h refl

@@ -17,7 +17,7 @@ use Rattle.pairs.proofs.Theorems.{list-is-orders-listed}
 use Rattle.rules.specs.TableText.{readTables, HoldSame}
 use Rattle.rules.proofs.Theorems.{normal-accepted, same-normal}
 use Rattle.schedule.proofs.Accepted.{recorded-order}
-use Rattle.runs.specs.Types.{Silent}
+use Rattle.runs.specs.Types.{Answer}
 use Rattle.runs.specs.Runs.{operationAt, runRows, answersIn, givenOr}
 use Rattle.runs.proofs.EndTables.{run-tables, run-answers, run-sorted}
 use Rattle.replay.specs.Types.{Event, Row}
@@ -49,7 +49,7 @@ module _ (es : List Event) (o : List ℕ) (allowed : Allowed es o) where
     row-answers : (i : ℕ) → answersIn es o rs i ≡ answersIn es (recorded es) rs i
     row-answers i =
         run-answers es (length es) o (allowed .order) rs s i
-        ∙ ap (givenOr Silent) (end-answers (tablesOf rs) (λ v. sorted-table v rs s) i)
+        ∙ ap (givenOr Answer.Silent) (end-answers (tablesOf rs) (λ v. sorted-table v rs s) i)
         ∙ sym (run-answers es (length es) (recorded es) (recorded-order (length es)) rs s i)
 
     -- both texts are those of the recorded order

@@ -12,7 +12,7 @@ use Rattle.rules.specs.TableText.{readTables}
 use Rattle.schedule.specs.Schedule.{orderRefusal}
 use Rattle.runs.specs.Runs.{runRows, answersIn}
 use Rattle.writing.specs.Writing.{Replayed, bothTexts, fitting, answerOf, startingWith, tablesIn, answersAt}
-use Rattle.replay.specs.Types.{Refusal, TooManyEntries, TablesShort, AnswersShort, Event, Row, ReplayAnswer, Lengths}
+use Rattle.replay.specs.Types.{Refusal, Event, Row, ReplayAnswer}
 
 -- both texts, of an order of the events from the rows of a table text
 unfoldable pub textsOf : List Event → List ℕ → List Row → Replayed
@@ -20,7 +20,7 @@ textsOf es o rs = bothTexts (runRows es o rs) (answersIn es o rs) (length es)
 
 -- 41 where more than 512 entries are held at the end; then 32, 33
 unfoldable pub ranFrom : List Event → List Row → List ℕ → ℕ → ℕ → Refusal ⊎ Replayed
-ranFrom es rs o room room' = cond (ltb 512 (length (runRows es o rs))) (inl TooManyEntries) (fitting (textsOf es o rs) room room')
+ranFrom es rs o room room' = cond (ltb 512 (length (runRows es o rs))) (inl Refusal.TooManyEntries) (fitting (textsOf es o rs) room room')
 
 -- the order's refusal, or what follows
 abbrev pub unless : Option Refusal → Refusal ⊎ Replayed → Refusal ⊎ Replayed
@@ -54,11 +54,11 @@ answersAfter trace tables o old old' = answersAt (replayed trace tables o (lengt
 
 -- buffers are long enough if neither 32 nor 33 applies
 pub record LongEnough (trace tables o : List ℕ) (room room' : ℕ) : Type 0 where
-  pub tablesFit : (n : ℕ) → replayed trace tables o room room' ≡ inl (TablesShort n) → ⊥
-  pub answersFit : (n : ℕ) → replayed trace tables o room room' ≡ inl (AnswersShort n) → ⊥
+  pub tablesFit : (n : ℕ) → replayed trace tables o room room' ≡ inl (Refusal.TablesShort n) → ⊥
+  pub answersFit : (n : ℕ) → replayed trace tables o room room' ≡ inl (Refusal.AnswersShort n) → ⊥
 
 -- a replay into these two buffers returns the lengths of the texts x and writes them, each from its buffer's start
 pub record Writes (x : Replayed) (trace tables o old old' : List ℕ) : Type 0 where
-  pub returned : replayAnswer trace tables o (length old) (length old') ≡ Lengths (length (x .tables)) (length (x .answers))
+  pub returned : replayAnswer trace tables o (length old) (length old') ≡ ReplayAnswer.Lengths (length (x .tables)) (length (x .answers))
   pub tablesWritten : tablesAfter trace tables o old old' ≡ startingWith (x .tables) old
   pub answersWritten : answersAfter trace tables o old old' ≡ startingWith (x .answers) old'

@@ -17,7 +17,7 @@ use Rattle.pairs.specs.Counting.{Small}
 use Rattle.pairs.proofs.PairLaws.{bytes-length}
 use Rattle.trace.specs.TraceText.{readTrace}
 use Rattle.trace.proofs.Accepted.{accepted-iff}
-use Rattle.report.specs.Types.{Event, Counts, Refusal, ListAnswer, Counted, Refused}
+use Rattle.report.specs.Types.{Event, Counts, Refusal, ListAnswer}
 use Rattle.races.specs.Races.{answerFor, bufferAfter, answerTo, bufferOf, listAnswer, listBuffer}
 use Rattle.report.specs.Report.{raceLines, countsLine, reportText}
 use Rattle.races.proofs.ListLaws.{listed-is}
@@ -35,13 +35,13 @@ pub record Listing (s list : List ℕ) (c : Counts) : Type 0 where
   pub room : 2 * c .listed ≤ length list
   pub bytes : take (2 * c .listed) list ≡ pairBytes (listOf events)
 
-not-counted : {G : Type 0} {c : Counts} {r : Refusal} → Counted c ≡ Refused r → G
+not-counted : {G : Type 0} {c : Counts} {r : Refusal} → ListAnswer.Counts c ≡ ListAnswer.Refused r → G
 not-counted e = let z : _≡_ {A = ℕ} 0 1 = cc in absurd (omega arith)
 
-same-counts : {c d : Counts} → Counted c ≡ Counted d → c ≡ d
+same-counts : {c d : Counts} → ListAnswer.Counts c ≡ ListAnswer.Counts d → c ≡ d
 same-counts e = cc
 
-same-refused : {q r : Refusal} → Refused q ≡ Refused r → q ≡ r
+same-refused : {q r : Refusal} → ListAnswer.Refused q ≡ ListAnswer.Refused r → q ≡ r
 same-refused e = cc
 
 module _ (s old : List ℕ) (roomy : length old ≡ 65536) where
@@ -49,7 +49,7 @@ module _ (s old : List ℕ) (roomy : length old ≡ 65536) where
   unfolding needed
   enough es h = le-ltb (length old) (needed es) (omega (arith, count-most listed es (accepted-iff s es .0 h .few)))
 
-  accepted : (es : List Event) → readTrace s ≡ inr es → (c : Counts) (list : List ℕ) → Counted c ≡ answerFor es (length old) → list ≡ bufferAfter es old → Listing s list c
+  accepted : (es : List Event) → readTrace s ≡ inr es → (c : Counts) (list : List ℕ) → ListAnswer.Counts c ≡ answerFor es (length old) → list ≡ bufferAfter es old → Listing s list c
   unfolding answerFor bufferAfter
   accepted es h c list u v =
       let few = accepted-iff s es .0 h .few in
@@ -66,24 +66,24 @@ module _ (s old : List ℕ) (roomy : length old ≡ 65536) where
         bytes = ap (take (2 * c .listed)) l ∙ take-at (pairBytes (listOf es)) (drop (needed es) old) (2 * c .listed) n;
       }
 
-  not-short : (es : List Event) → readTrace s ≡ inr es → {G : Type 0} (r : Refusal) → Refused r ≡ answerFor es (length old) → G
+  not-short : (es : List Event) → readTrace s ≡ inr es → {G : Type 0} (r : Refusal) → ListAnswer.Refused r ≡ answerFor es (length old) → G
   unfolding answerFor
   not-short es h r u = not-counted (sym (rw (enough es h) at u))
 
   module _ {a : ListAnswer} (e : a ≡ listAnswer s (length old)) where
-    pub call-counts : {list : List ℕ} → list ≡ listBuffer s old → (c : Counts) → a ≡ Counted c → Listing s list c
+    pub call-counts : {list : List ℕ} → list ≡ listBuffer s old → (c : Counts) → a ≡ ListAnswer.Counts c → Listing s list c
     unfolding listAnswer listBuffer
     call-counts {list} f c g = go (readTrace s) refl (sym g ∙ e) f
       where
-        go : (x : Refusal ⊎ List Event) → readTrace s ≡ x → Counted c ≡ answerTo x (length old) → list ≡ bufferOf x old → Listing s list c
+        go : (x : Refusal ⊎ List Event) → readTrace s ≡ x → ListAnswer.Counts c ≡ answerTo x (length old) → list ≡ bufferOf x old → Listing s list c
         go (inl r) h u v = not-counted u
         go (inr es) h u v = accepted es h c list u v
 
-    pub call-refusal : (r : Refusal) → a ≡ Refused r → readTrace s ≡ inl r
+    pub call-refusal : (r : Refusal) → a ≡ ListAnswer.Refused r → readTrace s ≡ inl r
     unfolding listAnswer
     call-refusal r g = go (readTrace s) refl (sym g ∙ e)
       where
-        go : (x : Refusal ⊎ List Event) → readTrace s ≡ x → Refused r ≡ answerTo x (length old) → readTrace s ≡ inl r
+        go : (x : Refusal ⊎ List Event) → readTrace s ≡ x → ListAnswer.Refused r ≡ answerTo x (length old) → readTrace s ≡ inl r
         go (inl q) h u = h ∙ ap inl (sym (same-refused u))
         go (inr es) h u = not-short es h r u
 

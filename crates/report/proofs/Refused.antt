@@ -18,7 +18,7 @@ use Rattle.eventline.specs.EventLine.{clearEvent, readLine, onLine, readEvent}
 use Rattle.trace.specs.Search.{lowest}
 use Rattle.trace.specs.TraceText.{twice, tooEarly, refusedAt, checkTokens, onEvents, readLines, withinLimits, readTrace}
 use Rattle.trace.proofs.Accepted.{token-twice-line, token-early-line}
-use Rattle.report.specs.Types.{Event, Refusal, TokenTwice, TokenTooEarly, Source, Neither, InTrace, InTables}
+use Rattle.report.specs.Types.{Event, Refusal, Source}
 use Rattle.diagnostics.specs.Report.{lineText}
 
 same-refusal : {A : Type 0} {q r : Refusal} → _≡_ {A = Refusal ⊎ A} (inl q) (inl r) → q ≡ r
@@ -55,9 +55,9 @@ tokens-place : (es : List Event) (r : Refusal) → checkTokens es ≡ inl r → 
 unfolding checkTokens
 tokens-place es r h = go (lowest (twice es) (length es)) (lowest (tooEarly es) (length es)) h
   where
-    go : (x y : Option ℕ) → refusedAt TokenTwice x (refusedAt TokenTooEarly y (inr es)) ≡ inl r → placeOf r < length es
-    go (some j) y u = let e : r ≡ TokenTwice j = sym (same-refusal u) in rw e (token-twice-line es j (h ∙ ap inl e) .inside)
-    go none (some i) u = let e : r ≡ TokenTooEarly i = sym (same-refusal u) in rw e (token-early-line es i (h ∙ ap inl e) .0 .inside)
+    go : (x y : Option ℕ) → refusedAt Refusal.TokenTwice x (refusedAt Refusal.TokenTooEarly y (inr es)) ≡ inl r → placeOf r < length es
+    go (some j) y u = let e : r ≡ Refusal.TokenTwice j = sym (same-refusal u) in rw e (token-twice-line es j (h ∙ ap inl e) .inside)
+    go none (some i) u = let e : r ≡ Refusal.TokenTooEarly i = sym (same-refusal u) in rw e (token-early-line es i (h ∙ ap inl e) .0 .inside)
     go none none u = not-both u
 
 -- 1, 2 and 3 have the place 0, and there are at most 256 lines
@@ -94,9 +94,9 @@ line-most [] k = omega arith
 line-most (b ∷ s) k = split (eqb b 10) (λ e. rw e (after-most (lines s) (length s) (line-most s) k)) (λ e. rw e (first-most b (lines s) (length s) (line-most s) k))
 
 text-most : (s : List ℕ) (q : Source) (n : ℕ) → length (lineText q (getD (lines (textIn q s [])) n [])) ≤ length s + 1
-text-most s Neither n = omega arith
-text-most s InTrace n = omega (arith, length-append (getD (lines s) n []) (10 ∷ []), line-most s n)
-text-most s InTables n = omega (arith, length-append (getD (lines []) n []) (10 ∷ []), line-most [] n)
+text-most s Source.Neither n = omega arith
+text-most s Source.Trace n = omega (arith, length-append (getD (lines s) n []) (10 ∷ []), line-most s n)
+text-most s Source.Tables n = omega (arith, length-append (getD (lines []) n []) (10 ∷ []), line-most [] n)
 
 -- a text that exceeds a limit has no refused line; the line of any other fits 65,536 bytes with its LF
 pub refused-text : (s : List ℕ) (r : Refusal) → readTrace s ≡ inl r → length (lineText (sourceOf r) (lineOf s [] r)) ≤ 65536

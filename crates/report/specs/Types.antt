@@ -1,9 +1,6 @@
 -- The types that this crate's definitions speak of, under one name each.
 pub use Rattle.refusals.specs.declared.refusal.Refusal.{Refusal}
-pub use Rattle.refusals.specs.declared.refusal.Refusal.the-variants.{TokenTwice, TokenTooEarly}
 pub use Rattle.refusals.specs.declared.refusal.Source.{Source}
-pub use Rattle.refusals.specs.declared.refusal.Source.the-variants.{Neither, Trace as InTrace, Tables as InTables}
 pub use Rattle.events.specs.declared.event.Event.{Event}
 pub use Rattle.pairs.specs.declared.counts.Counts.{Counts}
 pub use Rattle.races.specs.declared.answer.ListAnswer.{ListAnswer}
-pub use Rattle.races.specs.declared.answer.ListAnswer.the-variants.{Counts as Counted, Refused}

@@ -7,25 +7,25 @@ use native.Mathlib.Numerals.{add-one}
 use native.Mathlib.Omega.{arith}
 use lib.ListN.{length, take, getD}
 use lib.Seq.{length-take-le, getD-take}
-use Rattle.rows.specs.Types.{Ordering, Less, Equal, Greater, Row}
+use Rattle.rows.specs.Types.{Ordering, Row}
 use Rattle.rows.specs.Rows.{rowOrder, isLess, RowBefore, SortedRows}
 use Rattle.rows.proofs.RowOrder.{row-chain}
 
 -- a row before all of a list is before the one at each index
-pub before-at : (r : Row) (xs : List Row) (m : ℕ) (d : Row) → RowBefore r xs → m < length xs → rowOrder r (getD xs m d) ≡ Less
+pub before-at : (r : Row) (xs : List Row) (m : ℕ) (d : Row) → RowBefore r xs → m < length xs → rowOrder r (getD xs m d) ≡ Ordering.Less
 before-at r [] m d b h = absurd (omega arith)
 before-at r (x ∷ xs) zero d b h = b .0
 before-at r (x ∷ xs) (suc m) d b h = before-at r xs m d (b .1) (omega arith)
 
-before-next : (r : Row) (xs : List Row) (m : ℕ) (d : Row) → m < length xs → RowBefore r (take m xs) → rowOrder r (getD xs m d) ≡ Less → RowBefore r (take (suc m) xs)
+before-next : (r : Row) (xs : List Row) (m : ℕ) (d : Row) → m < length xs → RowBefore r (take m xs) → rowOrder r (getD xs m d) ≡ Ordering.Less → RowBefore r (take (suc m) xs)
 before-next r [] m d h b e = absurd (omega arith)
 before-next r (x ∷ xs) zero d h b e = (e, tt)
 before-next r (x ∷ xs) (suc m) d h b e = (b .0, before-next r xs m d (omega arith) (b .1) e)
 
-is-less : (o : Ordering) → isLess o ≡ true → o ≡ Less
-is-less Less e = refl
-is-less Equal e = absurd (false≢true e)
-is-less Greater e = absurd (false≢true e)
+is-less : (o : Ordering) → isLess o ≡ true → o ≡ Ordering.Less
+is-less Ordering.Less e = refl
+is-less Ordering.Equal e = absurd (false≢true e)
+is-less Ordering.Greater e = absurd (false≢true e)
 
 pub in-order-one : (l : List Row) → SortedRows (take 1 l)
 in-order-one [] = tt
@@ -37,7 +37,7 @@ in-order-more [] i d h s e = absurd (omega arith)
 in-order-more (x ∷ xs) zero d h s e = (before-next x xs 0 d (omega arith) tt (is-less _ e), in-order-one xs)
 in-order-more (x ∷ xs) (suc i) d h s e =
     let y = getD xs i d in
-    let first : rowOrder x y ≡ Less = ap (rowOrder x) (sym (getD-take (suc i) xs i d (omega arith))) ∙ before-at x (take (suc i) xs) i d (s .0) (omega (arith, length-take-le (suc i) xs (omega arith))) in
+    let first : rowOrder x y ≡ Ordering.Less = ap (rowOrder x) (sym (getD-take (suc i) xs i d (omega arith))) ∙ before-at x (take (suc i) xs) i d (s .0) (omega (arith, length-take-le (suc i) xs (omega arith))) in
     (before-next x xs (suc i) d (omega arith) (s .0) (row-chain x y (getD xs (suc i) d) first (is-less _ e)), in-order-more xs i d (omega arith) (s .1) e)
 
 pub in-order-next : (l : List Row) (i : ℕ) (d : Row) (b : Bool) → 0 < i → i < length l → SortedRows (take i l) → b ≡ isLess (rowOrder (getD l (i - 1) d) (getD l i d)) → not b ≡ false → SortedRows (take (i + 1) l)
@@ -58,7 +58,7 @@ in-order-under (x ∷ xs) (suc n) zero h s = absurd (omega arith)
 in-order-under (x ∷ xs) (suc n) (suc i) h s = (before-under x xs n i (omega arith) (s .0), in-order-under xs n i (omega arith) (s .1))
 
 -- of rows in order each is less than the next; so rows of which one is not are not in order
-sorted-next : (l : List Row) (i : ℕ) (d : Row) → suc i < length l → SortedRows l → rowOrder (getD l i d) (getD l (suc i) d) ≡ Less
+sorted-next : (l : List Row) (i : ℕ) (d : Row) → suc i < length l → SortedRows l → rowOrder (getD l i d) (getD l (suc i) d) ≡ Ordering.Less
 sorted-next [] i d h s = absurd (omega arith)
 sorted-next (x ∷ xs) zero d h s = before-at x xs 0 d (s .0) (omega arith)
 sorted-next (x ∷ xs) (suc i) d h s = sorted-next xs i d (omega arith) (s .1)
@@ -68,6 +68,6 @@ pub in-order-not : (l : List Row) (n i : ℕ) (d : Row) (b : Bool) → 0 < i →
 in-order-not l n i d true z h m e f s = f
 in-order-not l n zero d false z h m e f s = absurd (omega arith)
 in-order-not l n (suc j) d false z h m e f s =
-    let p : rowOrder (getD (take n l) j d) (getD (take n l) (suc j) d) ≡ Less = sorted-next (take n l) j d (omega (arith, length-take-le n l m)) s in
+    let p : rowOrder (getD (take n l) j d) (getD (take n l) (suc j) d) ≡ Ordering.Less = sorted-next (take n l) j d (omega (arith, length-take-le n l m)) s in
     let q : suc j - 1 ≡ j = omega arith in
     e ∙ rw q (ap isLess (rw (getD-take n l j d (omega arith), getD-take n l (suc j) d h) at p))

@@ -7,12 +7,12 @@ use Prim.Native.Nat.{suc, _≤_}
 use native.Mathlib.Omega.{arith}
 use lib.ListN.{length}
 use Rattle.flow.proofs.Orders.{equal≢less}
-use Rattle.rows.specs.Types.{Action, Ordering, Less, Equal, Greater, Row}
+use Rattle.rows.specs.Types.{Action, Ordering, Row}
 use Rattle.rows.specs.Rows.{rowOrder, RowBefore, SortedRows, insertRowBy, insertRow, removeRows, assignRow, assignRows}
 use Rattle.rows.proofs.RowOrder.{slotOf, row-same, row-chain, row-greater, row-self, like-slot}
 
 -- ---- order kept
-pub before-chain : (r s : Row) (xs : List Row) → rowOrder r s ≡ Less → RowBefore s xs → RowBefore r xs
+pub before-chain : (r s : Row) (xs : List Row) → rowOrder r s ≡ Ordering.Less → RowBefore s xs → RowBefore r xs
 before-chain r s [] h b = tt
 before-chain r s (x ∷ xs) h b = (row-chain r s x h (b .0), before-chain r s xs h (b .1))
 
@@ -20,15 +20,15 @@ before-like : (r s : Row) (xs : List Row) → slotOf r ≡ slotOf s → RowBefor
 before-like r s [] h b = tt
 before-like r s (x ∷ xs) h b = (like-slot r s x h ∙ b .0, before-like r s xs h (b .1))
 
-before-insert : (s r : Row) (xs : List Row) → rowOrder s r ≡ Less → RowBefore s xs → RowBefore s (insertRow r xs)
+before-insert : (s r : Row) (xs : List Row) → rowOrder s r ≡ Ordering.Less → RowBefore s xs → RowBefore s (insertRow r xs)
 unfolding insertRow
 before-insert s r [] h b = (h, tt)
 before-insert s r (x ∷ xs) h b = go (rowOrder r x) (before-insert s r xs h (b .1))
   where
     go : (o : Ordering) → RowBefore s (insertRow r xs) → RowBefore s (insertRowBy o r x xs (insertRow r xs))
-    go Less ih = (h, b)
-    go Equal ih = (h, b .1)
-    go Greater ih = (b .0, ih)
+    go Ordering.Less ih = (h, b)
+    go Ordering.Equal ih = (h, b .1)
+    go Ordering.Greater ih = (b .0, ih)
 
 pub sorted-insert : (r : Row) (rs : List Row) → SortedRows rs → SortedRows (insertRow r rs)
 unfolding insertRow
@@ -36,9 +36,9 @@ sorted-insert r [] s = (tt, tt)
 sorted-insert r (x ∷ xs) s = go (rowOrder r x) refl (sorted-insert r xs (s .1))
   where
     go : (o : Ordering) → rowOrder r x ≡ o → SortedRows (insertRow r xs) → SortedRows (insertRowBy o r x xs (insertRow r xs))
-    go Less q ih = ((q, before-chain r x xs q (s .0)), s)
-    go Equal q ih = (before-like r x xs (row-same r x q) (s .0), s .1)
-    go Greater q ih = (before-insert x r xs (row-greater r x q) (s .0), ih)
+    go Ordering.Less q ih = ((q, before-chain r x xs q (s .0)), s)
+    go Ordering.Equal q ih = (before-like r x xs (row-same r x q) (s .0), s .1)
+    go Ordering.Greater q ih = (before-insert x r xs (row-greater r x q) (s .0), ih)
 
 module _ (p : Row → Bool) where
   before-remove : (r : Row) (xs : List Row) → RowBefore r xs → RowBefore r (removeRows p xs)
@@ -76,9 +76,9 @@ length-insert r [] = omega arith
 length-insert r (x ∷ xs) = go (rowOrder r x) (length-insert r xs)
   where
     go : (o : Ordering) → length (insertRow r xs) ≤ suc (length xs) → length (insertRowBy o r x xs (insertRow r xs)) ≤ suc (suc (length xs))
-    go Less ih = omega arith
-    go Equal ih = omega arith
-    go Greater ih = omega arith
+    go Ordering.Less ih = omega arith
+    go Ordering.Equal ih = omega arith
+    go Ordering.Greater ih = omega arith
 
 pub length-remove : (p : Row → Bool) (rs : List Row) → length (removeRows p rs) ≤ length rs
 unfolding removeRows
@@ -95,16 +95,16 @@ length-assign p a [] = refl
 length-assign p a (x ∷ xs) = ap suc (length-assign p a xs)
 
 -- ---- members
-before-mem : (r x : Row) (xs : List Row) → RowBefore r xs → List·Memᴰ x xs → rowOrder r x ≡ Less
+before-mem : (r x : Row) (xs : List Row) → RowBefore r xs → List·Memᴰ x xs → rowOrder r x ≡ Ordering.Less
 before-mem r x [] b m = absurd (List·Memᴰ·not-nil m)
 before-mem r x (y ∷ ys) b m = ⊎-elim (λ e. rw e (b .0)) (before-mem r x ys (b .1)) (List·Memᴰ·cases-cons m)
 
 -- no row stands before itself
-never-less : (r : Row) → rowOrder r r ≡ Less → ⊥
+never-less : (r : Row) → rowOrder r r ≡ Ordering.Less → ⊥
 never-less r e = equal≢less (sym (row-self r) ∙ e)
 
 -- no member of rows in order stands before the first of them
-first-after : (x y : Row) (ys : List Row) → RowBefore y ys → List·Memᴰ x (y ∷ ys) → rowOrder x y ≡ Less → ⊥
+first-after : (x y : Row) (ys : List Row) → RowBefore y ys → List·Memᴰ x (y ∷ ys) → rowOrder x y ≡ Ordering.Less → ⊥
 first-after x y ys b m h =
     ⊎-elim (λ e. never-less y (rw e at h)) (λ n. never-less x (row-chain x y x h (before-mem y x ys b n))) (List·Memᴰ·cases-cons m)
 

@@ -6,7 +6,7 @@ use Prim.Native.Nat.{ℕ}
 use Rattle.flow.specs.Entries.{orderOf, thenBy, keyOrder, isEqual}
 use Rattle.flow.proofs.Orders.{IsOrder, opposite, rising, in-turn}
 use Rattle.flow.proofs.Entries.{key-order}
-use Rattle.rows.specs.Types.{Key, Ordering, Less, Equal, Greater, Row}
+use Rattle.rows.specs.Types.{Key, Ordering, Row}
 use Rattle.rows.specs.Rows.{rowOrder, sameSlot}
 
 -- a switch and a key
@@ -28,19 +28,19 @@ unfolding rowOrder
 by-slot r s = refl
 
 module _ (r s : Row) where
-  pub row-same : rowOrder r s ≡ Equal → slotOf r ≡ slotOf s
+  pub row-same : rowOrder r s ≡ Ordering.Equal → slotOf r ≡ slotOf s
   row-same e = slot-order .same (slotOf r) (slotOf s) (sym (by-slot r s) ∙ e)
 
   pub row-turn : rowOrder s r ≡ opposite (rowOrder r s)
   row-turn = by-slot s r ∙ slot-order .turn (slotOf r) (slotOf s) ∙ sym (ap opposite (by-slot r s))
 
-  pub row-chain : (t : Row) → rowOrder r s ≡ Less → rowOrder s t ≡ Less → rowOrder r t ≡ Less
+  pub row-chain : (t : Row) → rowOrder r s ≡ Ordering.Less → rowOrder s t ≡ Ordering.Less → rowOrder r t ≡ Ordering.Less
   row-chain t e f = by-slot r t ∙ slot-order .chain (slotOf r) (slotOf s) (slotOf t) (sym (by-slot r s) ∙ e) (sym (by-slot s t) ∙ f)
 
-  pub row-greater : rowOrder r s ≡ Greater → rowOrder s r ≡ Less
+  pub row-greater : rowOrder r s ≡ Ordering.Greater → rowOrder s r ≡ Ordering.Less
   row-greater e = row-turn ∙ ap opposite e
 
-pub row-self : (r : Row) → rowOrder r r ≡ Equal
+pub row-self : (r : Row) → rowOrder r r ≡ Ordering.Equal
 row-self r = by-slot r r ∙ slot-order .self (slotOf r)
 
 -- rows of one slot compare alike
@@ -50,10 +50,10 @@ like-slot r s t e = by-slot r t ∙ ap (λ a. slotOrder a (slotOf t)) e ∙ sym 
 pub like-slot-right : (t r s : Row) → slotOf r ≡ slotOf s → rowOrder t r ≡ rowOrder t s
 like-slot-right t r s e = by-slot t r ∙ ap (slotOrder (slotOf t)) e ∙ sym (by-slot t s)
 
-is-equal : (o : Ordering) → isEqual o ≡ true → o ≡ Equal
-is-equal Less e = absurd (false≢true e)
-is-equal Equal e = refl
-is-equal Greater e = absurd (false≢true e)
+is-equal : (o : Ordering) → isEqual o ≡ true → o ≡ Ordering.Equal
+is-equal Ordering.Less e = absurd (false≢true e)
+is-equal Ordering.Equal e = refl
+is-equal Ordering.Greater e = absurd (false≢true e)
 
 pub same-slot-iff : (r s : Row) → (sameSlot r s ≡ true) ↔ (slotOf r ≡ slotOf s)
 unfolding sameSlot

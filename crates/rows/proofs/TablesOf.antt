@@ -15,13 +15,13 @@ use Rattle.flow.proofs.Orders.{number-equal}
 use Rattle.flow.proofs.Entries.{same-eq}
 use Rattle.table.specs.FlowTable.{Before, Sorted, get, insert, removeIf, assignIf, anyOf}
 use Rattle.table.proofs.TableLaws.{sorted-insert as sorted-insert-entry, get-insert, table-ext}
-use Rattle.rows.specs.Types.{Action, Key, Entry, Ordering, Less, Equal, Greater, Row}
+use Rattle.rows.specs.Types.{Action, Key, Entry, Ordering, Row}
 use Rattle.rows.specs.Rows.{row, rowOrder, RowBefore, SortedRows, tableOf, insertRowBy, insertRow, removeRows, assignRow, assignRows, anyRow, onSwitch}
 use Rattle.rows.proofs.RowOrder.{slotOf, row-same, row-self, like-slot}
 use Rattle.rows.proofs.RowLaws.{sorted-insert, same-rows}
 
 -- ---- the table of a switch is in order
-less-key : (r s : Row) → r .switch ≡ s .switch → rowOrder r s ≡ Less → keyOrder (r .entry .key) (s .entry .key) ≡ Less
+less-key : (r s : Row) → r .switch ≡ s .switch → rowOrder r s ≡ Ordering.Less → keyOrder (r .entry .key) (s .entry .key) ≡ Ordering.Less
 unfolding rowOrder thenBy
 less-key r s q e = rw (number-equal q) at e
 
@@ -68,7 +68,7 @@ same-tables rs ss s t h =
     (λ x m. entry-row (x .switch) (x .entry) rs (subst (List·Memᴰ (x .entry)) (sym (h (x .switch))) (row-entry x ss m)))
 
 -- ---- a row put in
-greater≢equal : Greater ≡ Equal → ⊥
+greater≢equal : Ordering.Greater ≡ Ordering.Equal → ⊥
 greater≢equal p = let z : _≡_ {A = ℕ} 0 1 = cc in omega arith
 
 module _ (w : ℕ) (k : Key) where
@@ -102,12 +102,12 @@ module _ (w : ℕ) (k : Key) where
     where
       go : (o : Ordering) → rowOrder r x ≡ o → get k (tableOf w (insertRow r xs)) ≡ cond (at r) (some (r .entry .action)) (get k (tableOf w xs))
           → get k (tableOf w (insertRowBy o r x xs (insertRow r xs))) ≡ cond (at r) (some (r .entry .action)) (get k (tableOf w (x ∷ xs)))
-      go Less q ih = get-cons r (x ∷ xs)
-      go Equal q ih =
+      go Ordering.Less q ih = get-cons r (x ∷ xs)
+      go Ordering.Equal q ih =
           get-cons r xs ∙ sym (ap (cond (at r) (some (r .entry .action)))
           (get-cons x xs ∙ ap (λ b. cond b (some (x .entry .action)) (get k (tableOf w xs))) (sym (at-slot r x (row-same r x q))))
           ∙ cond-same (at r) _ _ _)
-      go Greater q ih =
+      go Ordering.Greater q ih =
           get-cons x (insertRow r xs) ∙ ap (cond (at x) (some (x .entry .action))) ih
           ∙ cond-swap (at x) (at r) _ _ _ (λ e f. greater≢equal (sym q ∙ like-slot r x x (at-both r x f e) ∙ row-self x))
           ∙ ap (cond (at r) (some (r .entry .action))) (sym (get-cons x xs))

@@ -9,7 +9,7 @@ use lib.ListN.{take}
 use Rattle.flow.specs.Entries.{orderOf, thenBy, keyOrder, isEqual, sameKey}
 use Rattle.table.specs.FlowTable.{Table, inside, clash, admits}
 use Rattle.orders.specs.Tables.{Tables}
-use Rattle.rows.specs.Types.{Action, Key, Entry, Ordering, Less, Equal, Greater, Row, Rows, Filter, Same, Within, Clash, Fits}
+use Rattle.rows.specs.Types.{Action, Key, Entry, Ordering, Row, Rows, Filter}
 
 -- the rows that an array holds
 abbrev pub rowsOf : Rows → List Row
@@ -27,14 +27,14 @@ unfoldable pub sameSlot : Row → Row → Bool
 sameSlot r s = isEqual (rowOrder r s)
 
 abbrev pub isLess : Ordering → Bool
-isLess Less = true
-isLess Equal = false
-isLess Greater = false
+isLess Ordering.Less = true
+isLess Ordering.Equal = false
+isLess Ordering.Greater = false
 
 -- every row of the list stands after r
 abbrev pub RowBefore : Row → List Row → Type 0
 RowBefore r [] = Unit {0}
-RowBefore r (x ∷ xs) = (rowOrder r x ≡ Less) × RowBefore r xs
+RowBefore r (x ∷ xs) = (rowOrder r x ≡ Ordering.Less) × RowBefore r xs
 
 -- in strictly rising order
 abbrev pub SortedRows : List Row → Type 0
@@ -52,9 +52,9 @@ tablesOf rs = λ w. tableOf w rs
 -- ---- three changes of rows, and one question, by a test on rows
 -- a row put at its place, over one with its switch and key
 abbrev pub insertRowBy : Ordering → Row → Row → List Row → List Row → List Row
-insertRowBy Less r x xs rest = r ∷ x ∷ xs
-insertRowBy Equal r x xs rest = r ∷ xs
-insertRowBy Greater r x xs rest = x ∷ rest
+insertRowBy Ordering.Less r x xs rest = r ∷ x ∷ xs
+insertRowBy Ordering.Equal r x xs rest = r ∷ xs
+insertRowBy Ordering.Greater r x xs rest = x ∷ rest
 
 unfoldable pub insertRow : Row → List Row → List Row
 insertRow r [] = r ∷ []
@@ -84,7 +84,7 @@ unfoldable pub onSwitch : ℕ → (Key → Bool) → Row → Bool
 onSwitch w p x = eqb w (x .switch) && p (x .entry .key)
 
 abbrev pub passes : Filter → Key → Bool
-passes (Same k) = sameKey k
-passes (Within m) = inside m
-passes (Clash k) = clash k
-passes (Fits p) = admits p
+passes (Filter.Same k) = sameKey k
+passes (Filter.Within m) = inside m
+passes (Filter.Clash k) = clash k
+passes (Filter.Fits p) = admits p

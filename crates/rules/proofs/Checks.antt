@@ -12,7 +12,7 @@ use Rattle.digits.proofs.Writing.{put-whole}
 use Rattle.lines.specs.Lines.{lines}
 use Rattle.lines.specs.Limits.{limitOf}
 use Rattle.sorting.specs.Sorting.{sortRows}
-use Rattle.rules.specs.Types.{Refusal, KeyTwice, Limit, TablesShort, Row, Outcome, Accepted, Refused}
+use Rattle.rules.specs.Types.{Refusal, Limit, Row, Outcome}
 use Rattle.rules.specs.TableText.{readRows, inOrder, sorted, withinLimits, readTables, asOutcome}
 use Rattle.rules.specs.Normal.{Normalised, normalText, putText, normalised}
 
@@ -21,7 +21,7 @@ module _ (ok : Bool) (rs : List Row) (k : ℕ) (answer : ℕ ⊎ List Row) (e : 
   pub sorted-rows : ok ≡ true → inr rs ≡ inOrder answer
   sorted-rows t = ap inOrder (rw t at e)
 
-  pub twice-rows : ok ≡ false → inl (KeyTwice k) ≡ inOrder answer
+  pub twice-rows : ok ≡ false → inl (Refusal.KeyTwice k) ≡ inOrder answer
   twice-rows t = ap inOrder (rw t at e)
 
 -- ---- the checks of a text, in their order
@@ -32,24 +32,24 @@ limited s e f h = rw (← e, f) h
 
 -- ---- an answer, by its case
 module _ (o : Outcome) (rs : List Row) (x : Refusal ⊎ List Row) (e : asOutcome o rs ≡ x) where
-  pub line-refused : (f : Refusal) → o ≡ Refused f → asOutcome o rs ≡ sorted x
+  pub line-refused : (f : Refusal) → o ≡ Outcome.Refused f → asOutcome o rs ≡ sorted x
   line-refused f p = rw (← e, p)
 
-  pub lines-read : o ≡ Accepted → inOrder (sortRows rs) ≡ sorted x
+  pub lines-read : o ≡ Outcome.Accepted → inOrder (sortRows rs) ≡ sorted x
   lines-read p = rw (← e, p)
 
 module _ (o : Outcome) (rs : List Row) (s out : List ℕ) (e : asOutcome o rs ≡ readTables s) where
-  pub normal-refused : (f : Refusal) → o ≡ Refused f → (inl f, out) ≡ normalised s out
+  pub normal-refused : (f : Refusal) → o ≡ Outcome.Refused f → (inl f, out) ≡ normalised s out
   unfolding normalised
   normal-refused f p = rw (← e, p)
 
-  pub normal-written : (r : Normalised) → o ≡ Accepted → r ≡ putText (normalText rs) out → r ≡ normalised s out
+  pub normal-written : (r : Normalised) → o ≡ Outcome.Accepted → r ≡ putText (normalText rs) out → r ≡ normalised s out
   unfolding normalised
   normal-written r p q = q ∙ rw (← e, p)
 
 -- ---- a text put at the front of a buffer
 module _ (w out : List ℕ) where
-  pub put-short : (n : ℕ) → n ≡ length w → length out < n → (inl (TablesShort n), out) ≡ putText w out
+  pub put-short : (n : ℕ) → n ≡ length w → length out < n → (inl (Refusal.TablesShort n), out) ≡ putText w out
   unfolding putText
   put-short n e h = rw e (sym (rw (lt-ltb (length out) (length w) (omega arith))))
 

@@ -10,7 +10,7 @@ use lib.ListN.{length, getElem?}
 use Rattle.reader.proofs.Each.{refuses, accepts, Each, each-length, each-only, each-reads, each-refused}
 use Rattle.digits.proofs.Readers.{nothing}
 use Rattle.fields.specs.Written.{clearEntry}
-use Rattle.rules.specs.Types.{TablesAddressBit, KeyTwice, Row}
+use Rattle.rules.specs.Types.{Row, Refusal}
 use Rattle.rules.specs.TableText.{printRow, readRow, checkRow, readLine, readRows, RowInRange}
 use Rattle.rules.proofs.RowFormat.{row-format, row-range}
 
@@ -26,7 +26,7 @@ line-row : (k : ℕ) (l : List ℕ) (r : Row) (o : Option Row) → readRow l ≡
 line-row k l r none q e = refuses e
 line-row k l r (some x) q e = go (clearEntry (x .entry)) refl e
   where
-    go : (b : Bool) → clearEntry (x .entry) ≡ b → cond b (inr x) (inl (TablesAddressBit k)) ≡ inr r → (readRow l ≡ some r) × RowInRange r
+    go : (b : Bool) → clearEntry (x .entry) ≡ b → cond b (inr x) (inl (Refusal.TablesAddressBit k)) ≡ inr r → (readRow l ≡ some r) × RowInRange r
     go true c p =
         let h : x ≡ r = cc in
         rw (← h) (q, row-range x .0 (row-format l x .0 q .0, c))
@@ -48,18 +48,18 @@ pub as-read : (k : ℕ) (ls : List (List ℕ)) (rs : List Row) → ReadAs k ls r
 as-read = each-reads readLine RowOf row-line
 
 -- no line is refused for its key
-other-refusal : (k j : ℕ) (o : Option Row) → checkRow k o ≡ inl (KeyTwice j) → ⊥
+other-refusal : (k j : ℕ) (o : Option Row) → checkRow k o ≡ inl (Refusal.KeyTwice j) → ⊥
 other-refusal k j none e = let z : _≡_ {A = ℕ} 0 1 = cc in omega arith
 other-refusal k j (some x) e = go (clearEntry (x .entry)) e
   where
-    go : (b : Bool) → cond b (inr x) (inl (TablesAddressBit k)) ≡ inl (KeyTwice j) → ⊥
+    go : (b : Bool) → cond b (inr x) (inl (Refusal.TablesAddressBit k)) ≡ inl (Refusal.KeyTwice j) → ⊥
     go true p = accepts p
     go false p = let z : _≡_ {A = ℕ} 0 1 = cc in omega arith
 
-pub no-key-twice : (k j : ℕ) (ls : List (List ℕ)) → readRows k ls ≡ inl (KeyTwice j) → ⊥
+pub no-key-twice : (k j : ℕ) (ls : List (List ℕ)) → readRows k ls ≡ inl (Refusal.KeyTwice j) → ⊥
 unfolding readLine
 no-key-twice k j ls e =
-    let (i, l, a, b, p) = each-refused readLine k ls (KeyTwice j) e in
+    let (i, l, a, b, p) = each-refused readLine k ls (Refusal.KeyTwice j) e in
     other-refusal i j (readRow l) p
 
 -- ---- what the lines hold

@@ -17,10 +17,10 @@ use Rattle.sorting.specs.Sorting.{sortRows}
 use Rattle.rows.proofs.RowOrder.{like-slot, row-self}
 use Rattle.rows.proofs.RowLaws.{same-rows}
 use Rattle.sorting.proofs.SortLaws.{LowestTwice, Twice, Outcome, sort-outcome, sort-line, stands-iff}
-use Rattle.flow.specs.declared.ordering.Ordering.the-variants.{Less}
+use Rattle.flow.specs.declared.ordering.Ordering.{Ordering}
 use Rattle.lines.specs.Limits.{limitOf}
 use Rattle.reader.proofs.Each.{accepts}
-use Rattle.rules.specs.Types.{Refusal, KeyTwice, Limit, Row}
+use Rattle.rules.specs.Types.{Refusal, Limit, Row}
 use Rattle.rules.specs.TableText.{printRow, readRows, sorted, inOrder, withinLimits, readTables, HoldSame, TwiceOn, LowestOn}
 use Rattle.rules.specs.Normal.{normalText, normalised}
 use Rattle.rules.proofs.RowFormat.{row-format}
@@ -30,12 +30,12 @@ use Rattle.rules.proofs.Accepted.{accepting, accepted-holds, accepted-s
 
 -- ---- the normal text is accepted
 -- rows in order are sorted already
-before-at : (x : Row) (xs : List Row) → RowBefore x xs → (k : ℕ) (y : Row) → getElem? xs k ≡ some y → rowOrder x y ≡ Less
+before-at : (x : Row) (xs : List Row) → RowBefore x xs → (k : ℕ) (y : Row) → getElem? xs k ≡ some y → rowOrder x y ≡ Ordering.Less
 before-at x [] b k y e = nothing e
 before-at x (z ∷ xs) b zero y e = rw (← Option·some-injective _ _ e) (b .0)
 before-at x (z ∷ xs) b (suc k) y e = before-at x xs (b .1) k y e
 
-sorted-at : (rs : List Row) → SortedRows rs → (i k : ℕ) (x y : Row) → i < k → getElem? rs i ≡ some x → getElem? rs k ≡ some y → rowOrder x y ≡ Less
+sorted-at : (rs : List Row) → SortedRows rs → (i k : ℕ) (x y : Row) → i < k → getElem? rs i ≡ some x → getElem? rs k ≡ some y → rowOrder x y ≡ Ordering.Less
 sorted-at [] s i k x y h p q = nothing p
 sorted-at (z ∷ rs) s i zero x y h p q = absurd (omega arith)
 sorted-at (z ∷ rs) s zero (suc k) x y h p q = rw (← Option·some-injective _ _ p) (before-at z rs (s .0) k y q)
@@ -128,8 +128,8 @@ twice-lines s each a k = (
   λ (j, x, y, h, p, q, e, f). (j, x, y, h, line-of 0 (lines s) each a j x .1 p, line-of 0 (lines s) each a k y .1 q, λ i. record { switch = e i; key = f i }),
 )
 
-other-refusal : {P : Type 0} {e : Refusal} {k : ℕ} → _≡_ {A = Refusal ⊎ List Row} (inl e) (inl (KeyTwice k)) → (numberOf e ≡ 16 → ⊥) → P
-other-refusal {e = e} {k} p h = let q : e ≡ KeyTwice k = cc in absurd (h (ap numberOf q))
+other-refusal : {P : Type 0} {e : Refusal} {k : ℕ} → _≡_ {A = Refusal ⊎ List Row} (inl e) (inl (Refusal.KeyTwice k)) → (numberOf e ≡ 16 → ⊥) → P
+other-refusal {e = e} {k} p h = let q : e ≡ Refusal.KeyTwice k = cc in absurd (h (ap numberOf q))
 
 lowest-twice : (s : List ℕ) (each : List Row) → ReadAs 0 (lines s) each → (k : ℕ) → LowestTwice each k → LowestOn s k
 lowest-twice s each a k t = (
@@ -137,20 +137,20 @@ lowest-twice s each a k t = (
   λ j h w. true≢false (sym (stands-iff each j .1 (twice-lines s each a j .1 w)) ∙ t .lowest j h),
 )
 
-in-order-twice : (each : List Row) (k : ℕ) (x : ℕ ⊎ List Row) → sortRows each ≡ x → inOrder x ≡ inl (KeyTwice k) → sortRows each ≡ inl k
+in-order-twice : (each : List Row) (k : ℕ) (x : ℕ ⊎ List Row) → sortRows each ≡ x → inOrder x ≡ inl (Refusal.KeyTwice k) → sortRows each ≡ inl k
 in-order-twice each k (inl j) p q = let h : j ≡ k = cc in p ∙ ap inl h
 in-order-twice each k (inr rs) p q = accepts q
 
-sorted-twice : (s : List ℕ) (k : ℕ) (x : Refusal ⊎ List Row) → readRows 0 (lines s) ≡ x → sorted x ≡ inl (KeyTwice k) → LowestOn s k
+sorted-twice : (s : List ℕ) (k : ℕ) (x : Refusal ⊎ List Row) → readRows 0 (lines s) ≡ x → sorted x ≡ inl (Refusal.KeyTwice k) → LowestOn s k
 sorted-twice s k (inl e) p q = absurd (no-key-twice 0 k (lines s) (p ∙ q))
 sorted-twice s k (inr each) p q =
     lowest-twice s each (read-as 0 (lines s) each p) k (sort-line each k (in-order-twice each k (sortRows each) refl q))
 
-pub key-twice : (s : List ℕ) (k : ℕ) → readTables s ≡ inl (KeyTwice k) → LowestOn s k
+pub key-twice : (s : List ℕ) (k : ℕ) → readTables s ≡ inl (Refusal.KeyTwice k) → LowestOn s k
 unfolding readTables
 key-twice s k e = go (limitOf s) e
   where
-    go : (x : Limit) → withinLimits x (sorted (readRows 0 (lines s))) ≡ inl (KeyTwice k) → LowestOn s k
+    go : (x : Limit) → withinLimits x (sorted (readRows 0 (lines s))) ≡ inl (Refusal.KeyTwice k) → LowestOn s k
     go Limit.TooLong p = other-refusal p (λ z. omega arith)
     go Limit.Unended p = other-refusal p (λ z. omega arith)
     go Limit.TooManyLines p = other-refusal p (λ z. omega arith)

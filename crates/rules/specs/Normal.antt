@@ -7,7 +7,7 @@ use mathlib.Core.Path.{_≡_}
 use lib.Dec.{ltb}
 use lib.ListN.{length, drop}
 use Rattle.lines.specs.Lines.{unlines}
-use Rattle.rules.specs.Types.{Refusal, TablesShort, Row, NormalAnswer, NormalLength, NormalRefused}
+use Rattle.rules.specs.Types.{Refusal, Row, NormalAnswer}
 use Rattle.rules.specs.TableText.{printRow, readTables}
 
 -- the text of rows: a line for each, ended by LF
@@ -20,7 +20,7 @@ Normalised = (Refusal ⊎ ℕ) × List ℕ
 
 -- a text put at the front of a buffer that has room for it; the bytes past it, or all, as they were
 unfoldable pub putText : List ℕ → List ℕ → Normalised
-putText w out = cond (ltb (length out) (length w)) (inl (TablesShort (length w)), out) (inr (length w), w ++ drop (length w) out)
+putText w out = cond (ltb (length out) (length w)) (inl (Refusal.TablesShort (length w)), out) (inr (length w), w ++ drop (length w) out)
 
 abbrev pub putNormal : Refusal ⊎ List Row → List ℕ → Normalised
 putNormal (inl e) out = (inl e, out)
@@ -38,5 +38,5 @@ pub record PlaceIn (at size r : ℕ) : Type 0 where
 
 -- what the answer says
 abbrev pub asNormal : NormalAnswer → Refusal ⊎ ℕ
-asNormal (NormalLength n) = inr n
-asNormal (NormalRefused e) = inl e
+asNormal (NormalAnswer.Length n) = inr n
+asNormal (NormalAnswer.Refused e) = inl e

@@ -20,7 +20,7 @@ use Rattle.fields.specs.Read.{readEntry}
 use Rattle.fields.specs.Written.{EntryWritten, clearEntry}
 use Rattle.rows.specs.Rows.{row, rowsOf}
 use Rattle.sorting.specs.Sorting.{sortRows}
-use Rattle.rules.specs.Types.{Refusal, TablesTooLong, TablesUnended, TablesTooManyLines, TablesMalformed, TablesAddressBit, KeyTwice, Limit, Row, RowRead, RowTaken, RowRefused, Outcome, Accepted, Refused, TablesRead}
+use Rattle.rules.specs.Types.{Refusal, Limit, Row, RowRead, Outcome, TablesRead}
 
 -- ---- a line
 -- `sw=`
@@ -57,8 +57,8 @@ pub record RowInRange (r : Row) : Type 0 where
 -- ---- a text
 -- line k is malformed, has an address bit past its prefix, or is a row
 abbrev pub checkRow : ℕ → Option Row → Refusal ⊎ Row
-checkRow k none = inl (TablesMalformed k)
-checkRow k (some r) = cond (clearEntry (r .entry)) (inr r) (inl (TablesAddressBit k))
+checkRow k none = inl (Refusal.TablesMalformed k)
+checkRow k (some r) = cond (clearEntry (r .entry)) (inr r) (inl (Refusal.TablesAddressBit k))
 
 unfoldable pub readLine : ℕ → List ℕ → Refusal ⊎ Row
 readLine k l = checkRow k (readRow l)
@@ -69,7 +69,7 @@ readRows = readEach readLine
 
 -- the rows in order, switches rising, then table order; or the first line whose switch and key stand on an earlier one
 abbrev pub inOrder : ℕ ⊎ List Row → Refusal ⊎ List Row
-inOrder (inl k) = inl (KeyTwice k)
+inOrder (inl k) = inl (Refusal.KeyTwice k)
 inOrder (inr rs) = inr rs
 
 abbrev pub sorted : Refusal ⊎ List Row → Refusal ⊎ List Row
@@ -78,9 +78,9 @@ sorted (inr rs) = inOrder (sortRows rs)
 
 -- the rows of a table text, in order, or the first refusal: 11, 12, 13; on each line 14, 15; 16
 abbrev pub withinLimits : Limit → Refusal ⊎ List Row → Refusal ⊎ List Row
-withinLimits Limit.TooLong rest = inl TablesTooLong
-withinLimits Limit.Unended rest = inl TablesUnended
-withinLimits Limit.TooManyLines rest = inl TablesTooManyLines
+withinLimits Limit.TooLong rest = inl Refusal.TablesTooLong
+withinLimits Limit.Unended rest = inl Refusal.TablesUnended
+withinLimits Limit.TooManyLines rest = inl Refusal.TablesTooManyLines
 withinLimits Limit.Kept rest = rest
 
 unfoldable pub readTables : List ℕ → Refusal ⊎ List Row
@@ -109,12 +109,12 @@ LowestOn s k = TwiceOn s k × ((j : ℕ) → j < k → TwiceOn s j → ⊥)
 
 -- ---- what the answers say
 abbrev pub asRow : RowRead → Refusal ⊎ Row
-asRow (RowTaken r) = inr r
-asRow (RowRefused e) = inl e
+asRow (RowRead.Read r) = inr r
+asRow (RowRead.Refused e) = inl e
 
 abbrev pub asOutcome : Outcome → List Row → Refusal ⊎ List Row
-asOutcome Accepted rs = inr rs
-asOutcome (Refused e) rs = inl e
+asOutcome Outcome.Accepted rs = inr rs
+asOutcome (Outcome.Refused e) rs = inl e
 
 abbrev pub asTables : TablesRead → Refusal ⊎ List Row
 asTables r = asOutcome (r .outcome) (rowsOf (r .rows))

@@ -1,14 +1,10 @@
 -- The types that this crate's definitions speak of, under one name each.
 pub use Rattle.flow.specs.declared.entry.Entry.{Entry}
 pub use Rattle.refusals.specs.declared.refusal.Refusal.{Refusal}
-pub use Rattle.refusals.specs.declared.refusal.Refusal.the-variants.{TablesTooLong, TablesUnended, TablesTooManyLines, TablesMalformed, TablesAddressBit, KeyTwice, TablesShort}
 pub use Rattle.rows.specs.declared.row.Row.{Row}
 pub use Rattle.rows.specs.declared.row.Rows.{Rows}
 pub use Rattle.lines.specs.declared.limits.Limit.{Limit}
 pub use Rattle.rules.specs.declared.line.RowRead.{RowRead}
-pub use Rattle.rules.specs.declared.line.RowRead.the-variants.{Read as RowTaken, Refused as RowRefused}
 pub use Rattle.rules.specs.declared.read.Outcome.{Outcome}
-pub use Rattle.rules.specs.declared.read.Outcome.the-variants.{Accepted, Refused}
 pub use Rattle.rules.specs.declared.read.TablesRead.{TablesRead}
 pub use Rattle.rules.specs.declared.normal.NormalAnswer.{NormalAnswer}
-pub use Rattle.rules.specs.declared.normal.NormalAnswer.the-variants.{Length as NormalLength, Refused as NormalRefused}

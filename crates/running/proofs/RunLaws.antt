@@ -17,13 +17,13 @@ use Rattle.events.specs.Events.{eventsOf, noEvent}
 use Rattle.events.proofs.TraceLaws.{event-at}
 use Rattle.answers.specs.Answers.{kept, noAnswer, keptAt}
 use Rattle.runs.specs.Runs.{operationAt, runRows, keptIn, answersIn}
-use Rattle.running.specs.Types.{Other, Answer, Silent, Event, Trace, Row, Kept}
+use Rattle.running.specs.Types.{Answer, Event, Trace, Row, Kept, Operation}
 
 at-place : (o : List ℕ) (p : ℕ) → p < length o → drop p o ≡ getD o p 0 ∷ drop (p + 1) o
 at-place o p h = rw (add-one, drop-cons o p 0)
 
 -- the operation of an order's byte; nothing where the trace has no such event
-pub operation-here : (t : Trace) (e : ℕ) → cond (ltb e (t .len)) (getD (t .events) e noEvent .operation) Other ≡ operationAt (eventsOf t) e
+pub operation-here : (t : Trace) (e : ℕ) → cond (ltb e (t .len)) (getD (t .events) e noEvent .operation) Operation.Other ≡ operationAt (eventsOf t) e
 unfolding eventsOf
 operation-here t e =
     split (ltb e (t .len))
@@ -49,7 +49,7 @@ pub record Runs (es : List Event) (o : List ℕ) (b : Bool) (start : List Row) (
   pub answers : (i : ℕ) → keptIn es i (drop p o) (take len l) (keptAt ks i) ≡ answersIn es o start i
 
 module _ (es : List Event) (o : List ℕ) (b : Bool) (len : ℕ) (l : List Row) (ks : List Kept) where
-  pub run-start : length ks ≡ 256 → ((i : ℕ) → keptAt ks i ≡ Silent) → length l ≡ 512 → (b ≡ true → SortedRows (take len l)) → Runs es o b (take len l) len 0 ks len l
+  pub run-start : length ks ≡ 256 → ((i : ℕ) → keptAt ks i ≡ Answer.Silent) → length l ≡ 512 → (b ≡ true → SortedRows (take len l)) → Runs es o b (take len l) len 0 ks len l
   unfolding answersIn
   run-start r k s q = record {
     here = omega arith;

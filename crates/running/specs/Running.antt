@@ -8,12 +8,12 @@ use Rattle.rows.specs.Rows.{rowsOf, insertRow}
 use Rattle.stepping.specs.Stepping.{stepRows, replyRows}
 use Rattle.answers.specs.Answers.{keptAt}
 use Rattle.runs.specs.Runs.{runRows, answersIn}
-use Rattle.running.specs.Types.{Operation, Silent, Event, Row, Rows, Work, Step, Insert, Ran}
+use Rattle.running.specs.Types.{Operation, Event, Row, Rows, Work, Ran, Answer}
 
 -- the work of an event that does o: to step so; or to put a row in, if that is all that o does, and the rows are in order
 abbrev pub WorkFor : Bool → Operation → Work → Type 0
-WorkFor b o (Step f) = f ≡ o
-WorkFor b o (Insert r) = (b ≡ true) × ((rs : List Row) → insertRow r rs ≡ stepRows o rs) × ((rs : List Row) → Silent ≡ replyRows o rs)
+WorkFor b o (Work.Step f) = f ≡ o
+WorkFor b o (Work.Insert r) = (b ≡ true) × ((rs : List Row) → insertRow r rs ≡ stepRows o rs) × ((rs : List Row) → Answer.Silent ≡ replyRows o rs)
 
 -- what running an order from the starting rows gives: the rows, the answers, and at most one row more for each event
 pub record RunsTo (es : List Event) (o : List ℕ) (start : Rows) (r : Ran) : Type 0 where

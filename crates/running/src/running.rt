@@ -15,7 +15,6 @@ ghost use mathlib.Core.Bool.{true, cond};
 ghost use Prim.Native.Nat.{_<_, _≤_};
 ghost use lib.ListN.{length};
 ghost use Rattle.events.specs.Events.{eventsOf};
-ghost use Rattle.running.specs.Types.{Other, OnTable};
 ghost use Rattle.running.specs.Running.{WorkFor, RunsTo};
 
 // The rows that an order leaves, and the answer of each event under its number.
@@ -31,7 +30,7 @@ enum Work {
 }
 
 fn table_work(switch: u8, o: TableOperation) -> Work
-    ensures { λ r. ⌜ WorkFor true (OnTable switch o) r ⌝ }
+    ensures { λ r. ⌜ WorkFor true (Operation.Table switch o) r ⌝ }
 {
     match o {
         TableOperation::Add(entry) => Work::Insert(Row { switch, entry }),
@@ -42,7 +41,7 @@ fn table_work(switch: u8, o: TableOperation) -> Work
 
 // In place only among rows that are in order, where its place is searched by halving; nothing where the trace has no such event.
 fn work_of(present: bool, event: Event, in_order: bool) -> Work
-    ensures { λ r. ⌜ WorkFor «in_order» (cond present (event .operation) Other) r ⌝ }
+    ensures { λ r. ⌜ WorkFor «in_order» (cond present (event .operation) Operation.Other) r ⌝ }
 {
     if !present {
         return Work::Step(Operation::Other);

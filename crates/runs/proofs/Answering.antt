@@ -15,7 +15,7 @@ use Rattle.orders.proofs.OrderLaws.{in-range}
 use Rattle.rows.specs.Rows.{tableOf}
 use Rattle.stepping.specs.Stepping.{stepRows, tableReply, replyRows}
 use Rattle.events.specs.Events.{noEvent}
-use Rattle.runs.specs.Types.{Lookup, Add, AddChecked, ModifyStrict, Modify, DeleteStrict, Delete, Operation, Other, Barrier, Message, OnTable, Answer, Silent, Event, Row}
+use Rattle.runs.specs.Types.{Operation, Answer, Event, Row, TableOperation}
 use Rattle.runs.specs.Runs.{operationAt, keptIn, answersIn}
 use Rattle.answers.specs.Answers.{hasAnswer, isSilent}
 use Rattle.runs.proofs.EndTables.{kept-absent}
@@ -31,16 +31,16 @@ packet-answers t = at (highest t) (atPriority (highest t) t)
 
 reply-silent : (o : Operation) (rs : List Row) → isSilent (replyRows o rs) ≡ not (hasAnswer o)
 unfolding replyRows tableReply
-reply-silent Other rs = refl
-reply-silent (Barrier w) rs = refl
-reply-silent (Message w) rs = refl
-reply-silent (OnTable w (Lookup p)) rs = packet-answers (fitting p (tableOf w rs))
-reply-silent (OnTable w (Add e)) rs = refl
-reply-silent (OnTable w (AddChecked e)) rs = refl
-reply-silent (OnTable w (ModifyStrict e)) rs = refl
-reply-silent (OnTable w (Modify e)) rs = refl
-reply-silent (OnTable w (DeleteStrict k)) rs = refl
-reply-silent (OnTable w (Delete m)) rs = refl
+reply-silent Operation.Other rs = refl
+reply-silent (Operation.Barrier w) rs = refl
+reply-silent (Operation.Message w) rs = refl
+reply-silent (Operation.Table w (TableOperation.Packet p)) rs = packet-answers (fitting p (tableOf w rs))
+reply-silent (Operation.Table w (TableOperation.Add e)) rs = refl
+reply-silent (Operation.Table w (TableOperation.AddChecked e)) rs = refl
+reply-silent (Operation.Table w (TableOperation.ModifyStrict e)) rs = refl
+reply-silent (Operation.Table w (TableOperation.Modify e)) rs = refl
+reply-silent (Operation.Table w (TableOperation.DeleteStrict k)) rs = refl
+reply-silent (Operation.Table w (TableOperation.Delete m)) rs = refl
 
 module _ (es : List Event) where
   kept-silent : (i : ℕ) (o : List ℕ) (rs : List Row) (a : Answer) → has i o ≡ true → isSilent (keptIn es i o rs a) ≡ not (hasAnswer (operationAt es i))
@@ -63,8 +63,8 @@ module _ (es : List Event) where
   unfolding answersIn
   answer-line-iff o p rs i =
       elim (decLt i (length es)) [
-        | yes l ↦ kept-silent i o rs Silent (p .full i l)
-        | no l ↦ ap isSilent (kept-absent es i o rs Silent (absent l)) ∙ sym (ap (λ e. not (hasAnswer (e .operation))) (List·getD-eq-default es noEvent {n = i} (omega arith)))
+        | yes l ↦ kept-silent i o rs Answer.Silent (p .full i l)
+        | no l ↦ ap isSilent (kept-absent es i o rs Answer.Silent (absent l)) ∙ sym (ap (λ e. not (hasAnswer (e .operation))) (List·getD-eq-default es noEvent {n = i} (omega arith)))
       ]
     where
       absent : (i < length es → ⊥) → has i o ≡ false

@@ -15,7 +15,7 @@ use Rattle.orders.proofs.OrderLaws.{not-twice}
 use Rattle.rows.specs.Rows.{SortedRows, tableOf, tablesOf}
 use Rattle.stepping.specs.Stepping.{stepRows, replyRows}
 use Rattle.stepping.proofs.Steps.{step-tables, reply-tables, sorted-step, length-step}
-use Rattle.runs.specs.Types.{Operation, Answer, Silent, Event, Row}
+use Rattle.runs.specs.Types.{Operation, Answer, Event, Row}
 use Rattle.runs.specs.Runs.{operationAt, runRows, keptIn, answersIn, givenOr}
 
 module _ (ev : ℕ → Operation) where
@@ -74,6 +74,6 @@ module _ (es : List Event) where
 
   -- the answers are those of the tables
   pub run-answers : (n : ℕ) (o : List ℕ) → IsOrderOf n o → (rs : List Row) → SortedRows rs → (i : ℕ)
-      → answersIn es o rs i ≡ givenOr Silent (answers (operationAt es) o (tablesOf rs) i)
+      → answersIn es o rs i ≡ givenOr Answer.Silent (answers (operationAt es) o (tablesOf rs) i)
   unfolding answersIn
-  run-answers n o p rs s i = kept-reply i o rs Silent (not-twice p i) ∙ ap (givenOr Silent) (replies-by (operationAt es) o rs s i)
+  run-answers n o p rs s i = kept-reply i o rs Answer.Silent (not-twice p i) ∙ ap (givenOr Answer.Silent) (replies-by (operationAt es) o rs s i)

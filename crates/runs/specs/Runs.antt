@@ -7,7 +7,7 @@ use lib.Dec.{eqb}
 use Rattle.orders.specs.Orders.{run}
 use Rattle.stepping.specs.Stepping.{stepRows, replyRows}
 use Rattle.events.specs.Events.{eventAt}
-use Rattle.runs.specs.Types.{Operation, Answer, Silent, Event, Row}
+use Rattle.runs.specs.Types.{Operation, Answer, Event, Row}
 
 -- what event i does
 abbrev pub operationAt : List Event → ℕ → Operation
@@ -24,7 +24,7 @@ keptIn es i (j ∷ o) rs a = keptIn es i o (stepRows (operationAt es j) rs) (con
 
 -- the answer of event i, kept under its number; silent where it does not stand in the order
 unfoldable pub answersIn : List Event → List ℕ → List Row → ℕ → Answer
-answersIn es o rs i = keptIn es i o rs Silent
+answersIn es o rs i = keptIn es i o rs Answer.Silent
 
 -- the answer, or a where there is none
 abbrev pub givenOr : Answer → Option Answer → Answer

@@ -17,7 +17,7 @@ use Rattle.orders.specs.Orders.{from, has, stands, IsOrderOf}
 use Rattle.orders.proofs.OrderLaws.{not-both}
 use Rattle.causality.specs.Causality.{step, Chain, before}
 use Rattle.causality.proofs.Chains.{before-iff, chain-later}
-use Rattle.schedule.specs.Types.{Event, OrderIncomplete}
+use Rattle.schedule.specs.Types.{Event, Refusal}
 use Rattle.schedule.specs.Schedule.{complete, anyBefore, earlyFrom, firstEarly, tooEarly, orderRefusal, EarlyAt, Lowest, KeepsOrder}
 use Rattle.schedule.proofs.Flags.{complete-iff}
 use Rattle.schedule.proofs.SearchLaws.{early-like}
@@ -163,7 +163,7 @@ module _ (es : List Event) (o : List ℕ) (order : IsOrderOf (length es) o) wher
           (λ b. b)
 
 -- an order is accepted exactly if it is one of the events and keeps happens-before
-refused-parts : (b : Bool) (x : Option ℕ) → cond b (tooEarly x) (some OrderIncomplete) ≡ none → (b ≡ true) × (x ≡ none)
+refused-parts : (b : Bool) (x : Option ℕ) → cond b (tooEarly x) (some Refusal.OrderIncomplete) ≡ none → (b ≡ true) × (x ≡ none)
 refused-parts true none e = (refl, refl)
 refused-parts true (some p) e = absurd (some-none e)
 refused-parts false x e = absurd (some-none e)
@@ -179,7 +179,7 @@ accepted-iff es o = (
 
 -- ---- the two tests in turn
 module _ (es : List Event) (o : List ℕ) (n : ℕ) {b : Bool} (size : length es ≡ n) (asked : b ≡ complete n o) where
-  pub refuses-incomplete : b ≡ false → some OrderIncomplete ≡ orderRefusal es o
+  pub refuses-incomplete : b ≡ false → some Refusal.OrderIncomplete ≡ orderRefusal es o
   unfolding orderRefusal
   refuses-incomplete e = rw (size, ← asked, e) refl
 

@@ -8,7 +8,7 @@ use lib.Dec.{eqb}
 use lib.ListN.{length, getD}
 use Rattle.orders.specs.Orders.{has, stands}
 use Rattle.causality.specs.Causality.{step, Chain, before}
-use Rattle.schedule.specs.Types.{Event, Refusal, OrderIncomplete, EventTooEarly, Early, At, Nowhere, ScheduleAnswer, Accepted, Refused}
+use Rattle.schedule.specs.Types.{Event, Refusal, Early, ScheduleAnswer}
 
 -- every number below n passes the test
 abbrev pub allBelow : (ℕ → Bool) → ℕ → Bool
@@ -35,20 +35,20 @@ firstEarly es o = earlyFrom (before es) 0 o
 
 abbrev pub tooEarly : Option ℕ → Option Refusal
 tooEarly none = none
-tooEarly (some p) = some (EventTooEarly p)
+tooEarly (some p) = some (Refusal.EventTooEarly p)
 
 -- 21 if an order's length is wrong or an event missing; then 22 at that position; else nothing
 unfoldable pub orderRefusal : List Event → List ℕ → Option Refusal
-orderRefusal es o = cond (complete (length es) o) (tooEarly (firstEarly es o)) (some OrderIncomplete)
+orderRefusal es o = cond (complete (length es) o) (tooEarly (firstEarly es o)) (some Refusal.OrderIncomplete)
 
 -- what the search and the whole call answer
 abbrev pub asPosition : Early → Option ℕ
-asPosition (At p) = some p
-asPosition Nowhere = none
+asPosition (Early.At p) = some p
+asPosition Early.Nowhere = none
 
 abbrev pub asRefusal : ScheduleAnswer → Option Refusal
-asRefusal Accepted = none
-asRefusal (Refused r) = some r
+asRefusal ScheduleAnswer.Accepted = none
+asRefusal (ScheduleAnswer.Refused r) = some r
 
 -- a position that holds an event put before one that comes before it: a later position has that one
 pub record EarlyAt (hb : ℕ → ℕ → Bool) (o : List ℕ) (p : ℕ) : Type 0 where

@@ -9,7 +9,7 @@ use native.Mathlib.Omega.{arith}
 use lib.ListN.{length, take, drop, getD, drop-of-length-le}
 use lib.Seq.{drop-cons, take-suc, length-take-le, append-snoc, getD-take}
 use Rattle.flow.proofs.Orders.{opposite}
-use Rattle.rows.specs.Types.{Ordering, Less, Equal, Greater}
+use Rattle.rows.specs.Types.{Ordering}
 use Rattle.rows.specs.declared.row.Row.{Row}
 use Rattle.rows.specs.Rows.{rowOrder, SortedRows, insertRow}
 use Rattle.rows.proofs.RowOrder.{row-turn, row-chain, row-greater}
@@ -22,7 +22,7 @@ abbrev pub Past : Row → List Row → ℕ → Type 0
 Past a rs j = (insertRow a rs ≡ take j rs ++ insertRow a (drop j rs)) × (found a rs ≡ found a (drop j rs))
 
 -- a row that is greater than the one at m, and past those before it, goes past it
-past-next : (a : Row) (rs : List Row) (m : ℕ) (d : Row) → m < length rs → rowOrder a (getD rs m d) ≡ Greater → Past a rs m → Past a rs (suc m)
+past-next : (a : Row) (rs : List Row) (m : ℕ) (d : Row) → m < length rs → rowOrder a (getD rs m d) ≡ Ordering.Greater → Past a rs m → Past a rs (suc m)
 unfolding insertRow found
 past-next a rs m d h o p = (
   p .0 ∙ ap (λ s. take m rs ++ insertRow a s) (drop-cons rs m d h) ∙ rw (o, take-suc rs m d h, append-snoc) refl,
@@ -30,13 +30,13 @@ past-next a rs m d h o p = (
 )
 
 -- among rows in order it goes past all before it too
-past-sorted : (a : Row) (rs : List Row) (m : ℕ) (d : Row) → m < length rs → rowOrder a (getD rs m d) ≡ Greater → SortedRows rs → Past a rs (suc m)
+past-sorted : (a : Row) (rs : List Row) (m : ℕ) (d : Row) → m < length rs → rowOrder a (getD rs m d) ≡ Ordering.Greater → SortedRows rs → Past a rs (suc m)
 unfolding insertRow found
 past-sorted a [] m d h o s = absurd (omega arith)
 past-sorted a (x ∷ xs) zero d h o s = rw o (refl, refl)
 past-sorted a (x ∷ xs) (suc m) d h o s =
     let y = getD xs m d in
-    let first : rowOrder a x ≡ Greater = row-turn x a ∙ ap opposite (row-chain x y a (before-at x xs m d (s .0) (omega arith)) (row-greater a y o)) in
+    let first : rowOrder a x ≡ Ordering.Greater = row-turn x a ∙ ap opposite (row-chain x y a (before-at x xs m d (s .0) (omega arith)) (row-greater a y o)) in
     let rest = past-sorted a xs m d (omega arith) o (s .1) in
     rw first (ap (λ l. x ∷ l) (rest .0), rest .1)
 
@@ -53,9 +53,9 @@ pub record Searched (a : Row) (l : List Row) (n : ℕ) (s : Search) : Type 0 whe
 -- each comparison leaves less to search
 pub search-less : (s : Search) (m : ℕ) → s .low ≤ m → m < s .at → (o : Ordering) (r : Search) → r ≡ narrowedBy o s m → r .at - r .low < s .at - s .low
 unfolding narrowedBy
-search-less s m l h Less r q = omega (arith, ap (λ x. x .low) q, ap (λ x. x .at) q)
-search-less s m l h Equal r q = omega (arith, ap (λ x. x .low) q, ap (λ x. x .at) q)
-search-less s m l h Greater r q = omega (arith, ap (λ x. x .low) q, ap (λ x. x .at) q)
+search-less s m l h Ordering.Less r q = omega (arith, ap (λ x. x .low) q, ap (λ x. x .at) q)
+search-less s m l h Ordering.Equal r q = omega (arith, ap (λ x. x .low) q, ap (λ x. x .at) q)
+search-less s m l h Ordering.Greater r q = omega (arith, ap (λ x. x .low) q, ap (λ x. x .at) q)
 
 module _ (a : Row) (l : List Row) (n : ℕ) where
   pub search-start : n ≤ length l → Searched a l n (record { low = 0; at = n; same = false })
@@ -77,9 +77,9 @@ module _ (a : Row) (l : List Row) (n : ℕ) where
       under : m < length (take n l)
       under = omega (arith, k .within, length-take-le n l (k .fits))
 
-      narrower : (o : Ordering) → rowOrder a (getD (take n l) m d) ≡ o → (rowOrder a (getD (take n l) m d) ≡ Greater → Past a (take n l) (suc m)) → Searched a l n (narrowedBy o s m)
+      narrower : (o : Ordering) → rowOrder a (getD (take n l) m d) ≡ o → (rowOrder a (getD (take n l) m d) ≡ Ordering.Greater → Past a (take n l) (suc m)) → Searched a l n (narrowedBy o s m)
       unfolding insertRow found narrowedBy
-      narrower Less e p =
+      narrower Ordering.Less e p =
           let here = drop-cons (take n l) m d under in
           record {
             fits = k .fits;
@@ -89,7 +89,7 @@ module _ (a : Row) (l : List Row) (n : ℕ) where
             puts = rw (add-zero, here, e) refl;
             tells = rw (here, e) refl;
           }
-      narrower Equal e p =
+      narrower Ordering.Equal e p =
           let here = drop-cons (take n l) m d under in
           record {
             fits = k .fits;
@@ -99,7 +99,7 @@ module _ (a : Row) (l : List Row) (n : ℕ) where
             puts = rw (add-one, here, e) refl;
             tells = rw (here, e) refl;
           }
-      narrower Greater e p = record {
+      narrower Ordering.Greater e p = record {
         fits = k .fits;
         narrows = omega arith;
         within = k .within;

@@ -4,7 +4,7 @@ use mathlib.Core.Bool.{Bool, true, false}
 use mathlib.Core.List.{List, [], _∷_, _++_}
 use Prim.Native.Nat.{ℕ, _+_, _≤_}
 use lib.ListN.{take, drop}
-use Rattle.rows.specs.Types.{Ordering, Less, Equal, Greater}
+use Rattle.rows.specs.Types.{Ordering}
 use Rattle.rows.specs.declared.row.Row.{Row}
 use Rattle.rows.specs.Rows.{rowOrder, insertRow}
 use Rattle.searching.specs.declared.searching.Search.{Search}
@@ -16,9 +16,9 @@ bit false = 0
 
 -- the search stops at a row with r's switch and key
 abbrev pub foundBy : Ordering → Bool → Bool
-foundBy Less rest = false
-foundBy Equal rest = true
-foundBy Greater rest = rest
+foundBy Ordering.Less rest = false
+foundBy Ordering.Equal rest = true
+foundBy Ordering.Greater rest = rest
 
 unfoldable pub found : Row → List Row → Bool
 found r [] = false
@@ -32,9 +32,9 @@ pub record Placed (r : Row) (l : List Row) (n i : ℕ) (same : Bool) : Type 0 wh
 
 -- what is left to search, by how the row compares with that at the middle
 unfoldable pub narrowedBy : Ordering → Search → ℕ → Search
-narrowedBy Less s m = record { low = s .low; at = m; same = false }
-narrowedBy Equal s m = record { low = s .low; at = m; same = true }
-narrowedBy Greater s m = record { low = m + 1; at = s .at; same = s .same }
+narrowedBy Ordering.Less s m = record { low = s .low; at = m; same = false }
+narrowedBy Ordering.Equal s m = record { low = s .low; at = m; same = true }
+narrowedBy Ordering.Greater s m = record { low = m + 1; at = s .at; same = s .same }
 
 -- room for a row at index i of n rows, or stored over the one there
 abbrev pub roomFor : Bool → ℕ → ℕ → Room

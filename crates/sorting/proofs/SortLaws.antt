@@ -13,7 +13,7 @@ use lib.ListN.{length, take, drop, getD, getElem?}
 use borrow.Author.Tests.{ltb-true, ltb-false}
 use Rattle.flow.specs.Entries.{isEqual}
 use Rattle.flow.proofs.Booleans.{split, or-cases}
-use Rattle.rows.specs.Types.{Ordering, Less, Equal, Greater}
+use Rattle.rows.specs.Types.{Ordering}
 use Rattle.rows.specs.declared.row.Row.{Row}
 use Rattle.rows.specs.Rows.{rowOrder, sameSlot, RowBefore, SortedRows, insertRowBy, insertRow, anyRow}
 use Rattle.sorting.specs.Sorting.{standsIn, standsEarlier, sortFrom, sortRows}
@@ -34,9 +34,9 @@ found-any r [] s = refl
 found-any r (x ∷ xs) s = go (rowOrder r x) refl (found-any r xs (s .1))
   where
     go : (o : Ordering) → rowOrder r x ≡ o → found r xs ≡ anyRow (sameSlot r) xs → foundBy o (found r xs) ≡ (isEqual o || anyRow (sameSlot r) xs)
-    go Less e ih = sym (none-same r xs (before-chain r x xs e (s .0)))
-    go Equal e ih = refl
-    go Greater e ih = ih
+    go Ordering.Less e ih = sym (none-same r xs (before-chain r x xs e (s .0)))
+    go Ordering.Equal e ih = refl
+    go Ordering.Greater e ih = ih
 
 -- the line that a sort comes to, by what the search tells
 module _ (l : List Row) (n k : ℕ) (d : Row) (h : k < n) (fits : n ≤ length l) (rs : List Row) (s : SortedRows rs) (same : Bool) (tells : same ≡ found (getD l k d) rs) where
@@ -62,7 +62,7 @@ or-swap true true c = refl
 or-swap true false c = refl
 or-swap false b c = refl
 
-same-like : (y r x : Row) → rowOrder r x ≡ Equal → sameSlot y r ≡ sameSlot y x
+same-like : (y r x : Row) → rowOrder r x ≡ Ordering.Equal → sameSlot y r ≡ sameSlot y x
 unfolding sameSlot
 same-like y r x q = ap isEqual (like-slot-right y r x (row-same r x q))
 
@@ -73,9 +73,9 @@ any-insert y r (x ∷ xs) = go (rowOrder r x) refl (any-insert y r xs)
   where
     go : (o : Ordering) → rowOrder r x ≡ o → anyRow (sameSlot y) (insertRow r xs) ≡ (sameSlot y r || anyRow (sameSlot y) xs)
         → anyRow (sameSlot y) (insertRowBy o r x xs (insertRow r xs)) ≡ (sameSlot y r || (sameSlot y x || anyRow (sameSlot y) xs))
-    go Less q ih = refl
-    go Equal q ih = rw (← same-like y r x q) (or-absorb (sameSlot y r) (anyRow (sameSlot y) xs))
-    go Greater q ih = rw ih (or-swap (sameSlot y x) (sameSlot y r) (anyRow (sameSlot y) xs))
+    go Ordering.Less q ih = refl
+    go Ordering.Equal q ih = rw (← same-like y r x q) (or-absorb (sameSlot y r) (anyRow (sameSlot y) xs))
+    go Ordering.Greater q ih = rw ih (or-swap (sameSlot y x) (sameSlot y r) (anyRow (sameSlot y) xs))
 
 mem-insert : (y r : Row) (rs : List Row) → List·Memᴰ y (insertRow r rs) → (y ≡ r) ⊎ List·Memᴰ y rs
 unfolding insertRow
@@ -83,9 +83,9 @@ mem-insert y r [] m = List·Memᴰ·cases-cons m
 mem-insert y r (x ∷ xs) m = go (rowOrder r x) (mem-insert y r xs) m
   where
     go : (o : Ordering) → (List·Memᴰ y (insertRow r xs) → (y ≡ r) ⊎ List·Memᴰ y xs) → List·Memᴰ y (insertRowBy o r x xs (insertRow r xs)) → (y ≡ r) ⊎ List·Memᴰ y (x ∷ xs)
-    go Less ih n = List·Memᴰ·cases-cons n
-    go Equal ih n = ⊎-elim (λ e. inl e) (λ k. inr (List·Memᴰ·tail k)) (List·Memᴰ·cases-cons n)
-    go Greater ih n = ⊎-elim (λ e. inr (List·Memᴰ·head e)) (λ k. ⊎-elim (λ e. inl e) (λ j. inr (List·Memᴰ·tail j)) (ih k)) (List·Memᴰ·cases-cons n)
+    go Ordering.Less ih n = List·Memᴰ·cases-cons n
+    go Ordering.Equal ih n = ⊎-elim (λ e. inl e) (λ k. inr (List·Memᴰ·tail k)) (List·Memᴰ·cases-cons n)
+    go Ordering.Greater ih n = ⊎-elim (λ e. inr (List·Memᴰ·head e)) (λ k. ⊎-elim (λ e. inl e) (λ j. inr (List·Memᴰ·tail j)) (ih k)) (List·Memᴰ·cases-cons n)
 
 insert-mem : (r : Row) (rs : List Row) → List·Memᴰ r (insertRow r rs)
 unfolding insertRow
@@ -93,9 +93,9 @@ insert-mem r [] = List·Memᴰ·head refl
 insert-mem r (x ∷ xs) = go (rowOrder r x) (insert-mem r xs)
   where
     go : (o : Ordering) → List·Memᴰ r (insertRow r xs) → List·Memᴰ r (insertRowBy o r x xs (insertRow r xs))
-    go Less ih = List·Memᴰ·head refl
-    go Equal ih = List·Memᴰ·head refl
-    go Greater ih = List·Memᴰ·tail ih
+    go Ordering.Less ih = List·Memᴰ·head refl
+    go Ordering.Equal ih = List·Memᴰ·head refl
+    go Ordering.Greater ih = List·Memᴰ·tail ih
 
 -- a row whose switch and key are not there takes no other's place
 keep-mem : (y r : Row) (rs : List Row) → anyRow (sameSlot r) rs ≡ false → List·Memᴰ y rs → List·Memᴰ y (insertRow r rs)
@@ -105,9 +105,9 @@ keep-mem y r (x ∷ xs) h m = go (rowOrder r x) h (keep-mem y r xs)
   where
     go : (o : Ordering) → (isEqual o || anyRow (sameSlot r) xs) ≡ false → (anyRow (sameSlot r) xs ≡ false → List·Memᴰ y xs → List·Memᴰ y (insertRow r xs))
         → List·Memᴰ y (insertRowBy o r x xs (insertRow r xs))
-    go Less g ih = List·Memᴰ·tail m
-    go Equal g ih = absurd (true≢false g)
-    go Greater g ih = ⊎-elim (λ e. List·Memᴰ·head e) (λ n. List·Memᴰ·tail (ih g n)) (List·Memᴰ·cases-cons m)
+    go Ordering.Less g ih = List·Memᴰ·tail m
+    go Ordering.Equal g ih = absurd (true≢false g)
+    go Ordering.Greater g ih = ⊎-elim (λ e. List·Memᴰ·head e) (λ n. List·Memᴰ·tail (ih g n)) (List·Memᴰ·cases-cons m)
 
 -- ---- the lines up to k and from k on
 module _ {A : Type 0} where

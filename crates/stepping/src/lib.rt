@@ -13,14 +13,13 @@ use table::Operation;
 use table::TableOperation;
 ghost use mathlib.Core.Path.{_≡_};
 ghost use Prim.Native.Nat.{_+_, _<_, _≤_};
-ghost use Rattle.rows.specs.Types.{AddChecked, Modify};
 ghost use Rattle.rows.specs.Rows.{rowsOf};
 ghost use Rattle.stepping.specs.Stepping.{tableStep, stepRows, tableReply, replyRows};
 
 // Added unless a row of the priority overlaps.
 fn add_checked(t: Rows, switch: u8, e: Entry) -> Rows
     requires { ⌜ t .len < 512 ⌝ }
-    ensures { λ r. ⌜ (rowsOf r ≡ tableStep switch (AddChecked e) (rowsOf t)) × (r .len ≤ t .len + 1) ⌝ }
+    ensures { λ r. ⌜ (rowsOf r ≡ tableStep switch (TableOperation.AddChecked e) (rowsOf t)) × (r .len ≤ t .len + 1) ⌝ }
 {
     let k = e.key;
     if any(t, switch, Filter::Clash(k)) {
@@ -38,7 +37,7 @@ fn add_checked(t: Rows, switch: u8, e: Entry) -> Rows
 // The action at each row within the match; the entry added where there is none.
 fn modify(t: Rows, switch: u8, e: Entry) -> Rows
     requires { ⌜ t .len < 512 ⌝ }
-    ensures { λ r. ⌜ (rowsOf r ≡ tableStep switch (Modify e) (rowsOf t)) × (r .len ≤ t .len + 1) ⌝ }
+    ensures { λ r. ⌜ (rowsOf r ≡ tableStep switch (TableOperation.Modify e) (rowsOf t)) × (r .len ≤ t .len + 1) ⌝ }
 {
     let k = e.key;
     let m = k.pattern;

@@ -7,7 +7,7 @@ use native.Mathlib.Omega.{arith}
 use lib.ListN.{length}
 use Rattle.flow.proofs.Booleans.{split}
 use Rattle.flow.specs.Entries.{keyOrder, sameKey}
-use Rattle.table.specs.Types.{Action, Key, Ordering, Less, Equal, Greater}
+use Rattle.table.specs.Types.{Action, Key, Ordering}
 use Rattle.table.specs.FlowTable.{Table, entry, Sorted, insertBy, insert, removeIf, assignIf, anyOf, inside, clash, Effect, pkt, add, addc, modn, dels, deln, idle, after, get, foundAfter}
 use Rattle.table.proofs.TableLaws.{sorted-insert, sorted-remove, sorted-assign, get-insert, get-remove, get-assign}
 
@@ -46,9 +46,9 @@ length-insert k a [] = omega arith
 length-insert k a (e ∷ t) = go (keyOrder k (e .key)) (length-insert k a t)
   where
     go : (o : Ordering) → length (insert k a t) ≤ suc (length t) → length (insertBy o (entry k a) e t (insert k a t)) ≤ suc (suc (length t))
-    go Less ih = omega arith
-    go Equal ih = omega arith
-    go Greater ih = omega arith
+    go Ordering.Less ih = omega arith
+    go Ordering.Equal ih = omega arith
+    go Ordering.Greater ih = omega arith
 
 length-remove : (p : Key → Bool) (t : Table) → length (removeIf p t) ≤ length t
 length-remove p [] = omega arith

@@ -8,31 +8,31 @@ use mathlib.Core.List.{[], _∷_, List·Memᴰ, List·Memᴰ·head, List·Memᴰ
 use Rattle.flow.proofs.Booleans.{split, cond-same, cond-swap}
 use Rattle.flow.proofs.Entries.{key-order, same-eq, same-self, less-differ, greater-less, greater-differ}
 use Rattle.flow.specs.Entries.{keyOrder, sameKey}
-use Rattle.table.specs.Types.{Action, Key, Entry, Ordering, Less, Equal, Greater}
+use Rattle.table.specs.Types.{Action, Key, Entry, Ordering}
 use Rattle.table.specs.FlowTable.{Table, entry, Before, Sorted, get, insertBy, insert, removeIf, assignIf, anyOf, overwrite}
 
 -- order kept
-pub before-chain : (j k : Key) (t : Table) → keyOrder j k ≡ Less → Before k t → Before j t
+pub before-chain : (j k : Key) (t : Table) → keyOrder j k ≡ Ordering.Less → Before k t → Before j t
 before-chain j k [] h b = tt
 before-chain j k (e ∷ t) h b = (key-order .chain j k (e .key) h (b .0), before-chain j k t h (b .1))
 
-before-insert : (j k : Key) (a : Action) (t : Table) → keyOrder j k ≡ Less → Before j t → Before j (insert k a t)
+before-insert : (j k : Key) (a : Action) (t : Table) → keyOrder j k ≡ Ordering.Less → Before j t → Before j (insert k a t)
 before-insert j k a [] h b = (h, tt)
 before-insert j k a (e ∷ t) h b = go (keyOrder k (e .key)) (before-insert j k a t h (b .1))
   where
     go : (o : Ordering) → Before j (insert k a t) → Before j (insertBy o (entry k a) e t (insert k a t))
-    go Less ih = (h, b)
-    go Equal ih = (h, b .1)
-    go Greater ih = (b .0, ih)
+    go Ordering.Less ih = (h, b)
+    go Ordering.Equal ih = (h, b .1)
+    go Ordering.Greater ih = (b .0, ih)
 
 pub sorted-insert : (k : Key) (a : Action) (t : Table) → Sorted t → Sorted (insert k a t)
 sorted-insert k a [] s = (tt, tt)
 sorted-insert k a (e ∷ t) s = go (keyOrder k (e .key)) refl (sorted-insert k a t (s .1))
   where
     go : (o : Ordering) → keyOrder k (e .key) ≡ o → Sorted (insert k a t) → Sorted (insertBy o (entry k a) e t (insert k a t))
-    go Less q ih = ((q, before-chain k (e .key) t q (s .0)), s)
-    go Equal q ih = (rw (key-order .same k (e .key) q) (s .0), s .1)
-    go Greater q ih = (before-insert (e .key) k a t (greater-less k (e .key) q) (s .0), ih)
+    go Ordering.Less q ih = ((q, before-chain k (e .key) t q (s .0)), s)
+    go Ordering.Equal q ih = (rw (key-order .same k (e .key) q) (s .0), s .1)
+    go Ordering.Greater q ih = (before-insert (e .key) k a t (greater-less k (e .key) q) (s .0), ih)
 
 before-remove : (j : Key) (p : Key → Bool) (t : Table) → Before j t → Before j (removeIf p t)
 before-remove j p [] b = tt
@@ -65,9 +65,9 @@ get-insert k j a (e ∷ t) = go (keyOrder j (e .key)) refl (get-insert k j a t)
   where
     go : (o : Ordering) → keyOrder j (e .key) ≡ o → get k (insert j a t) ≡ cond (sameKey k j) (some a) (get k t)
         → get k (insertBy o (entry j a) e t (insert j a t)) ≡ cond (sameKey k j) (some a) (get k (e ∷ t))
-    go Less q ih = refl
-    go Equal q ih = rw (← key-order .same j (e .key) q) (sym (cond-same (sameKey k j) (some a) (some (e .action)) (get k t)))
-    go Greater q ih = rw ih (cond-swap (sameKey k (e .key)) (sameKey k j) (some (e .action)) (some a) (get k t)
+    go Ordering.Less q ih = refl
+    go Ordering.Equal q ih = rw (← key-order .same j (e .key) q) (sym (cond-same (sameKey k j) (some a) (some (e .action)) (get k t)))
+    go Ordering.Greater q ih = rw ih (cond-swap (sameKey k (e .key)) (sameKey k j) (some (e .action)) (some a) (get k t)
         (λ u v. greater-differ j (e .key) q (sym (same-eq k j v) ∙ same-eq k (e .key) u)))
 
 pub get-remove : (k : Key) (p : Key → Bool) (t : Table) → get k (removeIf p t) ≡ cond (p k) none (get k t)
@@ -118,9 +118,9 @@ any-insert p j a (e ∷ t) = go (keyOrder j (e .key)) refl (any-insert p j a t)
 
     go : (o : Ordering) → keyOrder j (e .key) ≡ o → anyOf p (insert j a t) ≡ p j || anyOf p t
         → anyOf p (insertBy o (entry j a) e t (insert j a t)) ≡ p j || (p (e .key) || anyOf p t)
-    go Less q ih = refl
-    go Equal q ih = rw (← key-order .same j (e .key) q) (or-same (p j) (anyOf p t))
-    go Greater q ih = rw ih (or-swap (p (e .key)) (p j) (anyOf p t))
+    go Ordering.Less q ih = refl
+    go Ordering.Equal q ih = rw (← key-order .same j (e .key) q) (or-same (p j) (anyOf p t))
+    go Ordering.Greater q ih = rw ih (or-swap (p (e .key)) (p j) (anyOf p t))
 
 pub any-assign : (p q : Key → Bool) (a : Action) (t : Table) → anyOf p (assignIf q a t) ≡ anyOf p t
 any-assign p q a [] = refl
@@ -166,11 +166,11 @@ table-ext (d ∷ t) [] s r h = absurd (none-some (sym (h (d .key)) ∙ get-head 
 table-ext (d ∷ t) (e ∷ u) s r h = go (keyOrder (d .key) (e .key)) refl (table-ext t u (s .1) (r .1))
   where
     go : (o : Ordering) → keyOrder (d .key) (e .key) ≡ o → (((k : Key) → get k t ≡ get k u) → t ≡ u) → _≡_ {A = Table} (d ∷ t) (e ∷ u)
-    go Less q ih = absurd (none-some (sym (before-none (d .key) (e ∷ u) (q, before-chain (d .key) (e .key) u q (r .0))) ∙ sym (h (d .key)) ∙ get-head d t))
-    go Greater q ih =
+    go Ordering.Less q ih = absurd (none-some (sym (before-none (d .key) (e ∷ u) (q, before-chain (d .key) (e .key) u q (r .0))) ∙ sym (h (d .key)) ∙ get-head d t))
+    go Ordering.Greater q ih =
         let l = greater-less (d .key) (e .key) q in
         absurd (none-some (sym (before-none (e .key) (d ∷ t) (l, before-chain (e .key) (d .key) t l (s .0))) ∙ h (e .key) ∙ get-head e u))
-    go Equal q ih = ap₂ {C = Table} _∷_ heads (ih tails)
+    go Ordering.Equal q ih = ap₂ {C = Table} _∷_ heads (ih tails)
       where
         keys : d .key ≡ e .key
         keys = key-order .same (d .key) (e .key) q

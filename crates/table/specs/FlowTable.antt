@@ -8,7 +8,7 @@ use lib.Dec.{eqb}
 use lib.ListN.{length}
 use Rattle.flow.specs.Matches.{fits, overlaps, within}
 use Rattle.flow.specs.Entries.{keyOrder, sameKey, EntryInRange}
-use Rattle.table.specs.Types.{Match, Packet, Action, Key, Entry, Ordering, Less, Equal, Greater, TableOperation, Lookup, Add, AddChecked, ModifyStrict, Modify, DeleteStrict, Delete, Operation, Other, Barrier, Message, OnTable, Answer, Silent, Miss, Hit, Done}
+use Rattle.table.specs.Types.{Match, Packet, Action, Key, Entry, Ordering, TableOperation, Operation, Answer}
 
 -- a table is the list of its entries, in strictly rising table order: so at most one entry has a key, and two tables with the
 -- same entries are equal (proofs/TableLaws.antt, `same-entries`)
@@ -21,7 +21,7 @@ entry k a = record { key = k; action = a }
 -- every entry of t stands after k
 abbrev pub Before : Key → Table → Type 0
 Before k [] = Unit {0}
-Before k (e ∷ t) = (keyOrder k (e .key) ≡ Less) × Before k t
+Before k (e ∷ t) = (keyOrder k (e .key) ≡ Ordering.Less) × Before k t
 
 abbrev pub Sorted : Table → Type 0
 Sorted [] = Unit {0}
@@ -40,9 +40,9 @@ get k (e ∷ t) = cond (sameKey k (e .key)) (some (e .action)) (get k t)
 -- ---- three changes of a table, and one question
 -- the key's action set, an old entry replaced
 abbrev pub insertBy : Ordering → Entry → Entry → Table → Table → Table
-insertBy Less n e t rest = n ∷ e ∷ t
-insertBy Equal n e t rest = n ∷ t
-insertBy Greater n e t rest = e ∷ rest
+insertBy Ordering.Less n e t rest = n ∷ e ∷ t
+insertBy Ordering.Equal n e t rest = n ∷ t
+insertBy Ordering.Greater n e t rest = e ∷ rest
 
 abbrev pub insert : Key → Action → Table → Table
 insert k a [] = entry k a ∷ []
@@ -88,8 +88,8 @@ abbrev pub atPriority : ℕ → Table → Table
 atPriority n t = removeIf (λ k. not (eqb (k .priority) n)) t
 
 abbrev pub firstAt : ℕ → Table → Answer
-firstAt n [] = Miss
-firstAt n (e ∷ t) = Hit n (suc (length t)) (e .action)
+firstAt n [] = Answer.Miss
+firstAt n (e ∷ t) = Answer.Hit n (suc (length t)) (e .action)
 
 unfoldable pub best : Table → Answer
 best t = firstAt (highest t) (atPriority (highest t) t)
@@ -105,20 +105,20 @@ pub data Effect : Type 0 where
   idle : Effect
 
 abbrev pub tableEffect : TableOperation → Effect
-tableEffect (Lookup p) = pkt p
-tableEffect (Add e) = add (e .key) (e .action)
-tableEffect (AddChecked e) = addc (e .key) (e .action)
-tableEffect (ModifyStrict e) = add (e .key) (e .action)
-tableEffect (Modify e) = modn (e .key) (e .action)
-tableEffect (DeleteStrict k) = dels k
-tableEffect (Delete m) = deln m
+tableEffect (TableOperation.Packet p) = pkt p
+tableEffect (TableOperation.Add e) = add (e .key) (e .action)
+tableEffect (TableOperation.AddChecked e) = addc (e .key) (e .action)
+tableEffect (TableOperation.ModifyStrict e) = add (e .key) (e .action)
+tableEffect (TableOperation.Modify e) = modn (e .key) (e .action)
+tableEffect (TableOperation.DeleteStrict k) = dels k
+tableEffect (TableOperation.Delete m) = deln m
 
 -- `oth`, `bar` and `msg` use no table
 abbrev pub effectOf : Operation → Effect
-effectOf Other = idle
-effectOf (Barrier w) = idle
-effectOf (Message w) = idle
-effectOf (OnTable w o) = tableEffect o
+effectOf Operation.Other = idle
+effectOf (Operation.Barrier w) = idle
+effectOf (Operation.Message w) = idle
+effectOf (Operation.Table w o) = tableEffect o
 
 -- the table that an event leaves
 unfoldable pub after : Effect → Table → Table
@@ -133,12 +133,12 @@ after idle t = t
 -- its answer
 unfoldable pub answer : Effect → Table → Answer
 answer (pkt p) t = best (fitting p t)
-answer (add k a) t = Silent
-answer (addc k a) t = Done (not (anyOf (clash k) t))
-answer (modn k a) t = Silent
-answer (dels k) t = Silent
-answer (deln m) t = Silent
-answer idle t = Silent
+answer (add k a) t = Answer.Silent
+answer (addc k a) t = Answer.Done (not (anyOf (clash k) t))
+answer (modn k a) t = Answer.Silent
+answer (dels k) t = Answer.Silent
+answer (deln m) t = Answer.Silent
+answer idle t = Answer.Silent
 
 -- the same said of one key: what is found there after an event (proofs/Effects.antt, `get-after`)
 abbrev pub overwrite : Action → Option Action → Option Action

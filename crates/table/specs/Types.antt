@@ -5,10 +5,6 @@ pub use Rattle.flow.specs.declared.action.Action.{Action}
 pub use Rattle.flow.specs.declared.entry.Key.{Key}
 pub use Rattle.flow.specs.declared.entry.Entry.{Entry}
 pub use Rattle.flow.specs.declared.ordering.Ordering.{Ordering}
-pub use Rattle.flow.specs.declared.ordering.Ordering.the-variants.{Less, Equal, Greater}
 pub use Rattle.table.specs.declared.operation.TableOperation.{TableOperation}
-pub use Rattle.table.specs.declared.operation.TableOperation.the-variants.{Packet as Lookup, Add, AddChecked, ModifyStrict, Modify, DeleteStrict, Delete}
 pub use Rattle.table.specs.declared.operation.Operation.{Operation}
-pub use Rattle.table.specs.declared.operation.Operation.the-variants.{Other, Barrier, Message, Table as OnTable}
 pub use Rattle.table.specs.declared.operation.Answer.{Answer}
-pub use Rattle.table.specs.declared.operation.Answer.the-variants.{Silent, Miss, Hit, Done}

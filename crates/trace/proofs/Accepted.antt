@@ -20,7 +20,7 @@ use Rattle.eventline.specs.EventLine.{printLine, clearEvent, readLine, onLine, 
 use Rattle.eventline.specs.Written.{EventWritten, EventInRange}
 use Rattle.eventline.proofs.LineFormat.{line-format}
 use Rattle.eventline.proofs.EventRanges.{event-range}
-use Rattle.trace.specs.Types.{Refusal, TokenTwice, TokenTooEarly, Limit, Event}
+use Rattle.trace.specs.Types.{Refusal, Limit, Event}
 use Rattle.trace.specs.Search.{lowest}
 use Rattle.trace.specs.TraceText.{twice, tooEarly, refusedAt, checkTokens, readLines, onEvents, withinLimits, readTrace}
 use Rattle.trace.specs.Meaning.{TwiceAt, EarlyAt, LowestLine, printFrom, AllWritten, IsTrace}
@@ -81,7 +81,7 @@ unfolding checkTokens
 tokens-only es fs h = go (lowest (twice es) (length es)) refl (lowest (tooEarly es) (length es)) refl h
   where
     go : (x : Option ℕ) → lowest (twice es) (length es) ≡ x → (y : Option ℕ) → lowest (tooEarly es) (length es) ≡ y
-        → refusedAt TokenTwice x (refusedAt TokenTooEarly y (inr es)) ≡ inr fs
+        → refusedAt Refusal.TokenTwice x (refusedAt Refusal.TokenTooEarly y (inr es)) ≡ inr fs
         → (es ≡ fs) × ((j : ℕ) → j < length es → TwiceAt es j → ⊥) × ((i : ℕ) → i < length es → EarlyAt es i → ⊥)
     go (some j) p y q u = refuses u
     go none p (some i) q u = refuses u
@@ -92,29 +92,29 @@ unfolding checkTokens
 tokens-pass es a b = go (lowest (twice es) (length es)) refl (lowest (tooEarly es) (length es)) refl
   where
     go : (x : Option ℕ) → lowest (twice es) (length es) ≡ x → (y : Option ℕ) → lowest (tooEarly es) (length es) ≡ y
-        → refusedAt TokenTwice x (refusedAt TokenTooEarly y (inr es)) ≡ inr es
+        → refusedAt Refusal.TokenTwice x (refusedAt Refusal.TokenTooEarly y (inr es)) ≡ inr es
     go (some j) p y q = let w = lowest-found (TwiceAt es) (twice es) (twice-iff es) (length es) j p in absurd (a j (w .inside) (w .here))
     go none p (some i) q = let w = lowest-found (EarlyAt es) (tooEarly es) (early-iff es) (length es) i q in absurd (b i (w .inside) (w .here))
     go none p none q = refl
 
 -- 7 and 8 give the lowest line of which they speak; 8 only where no token stands twice
-pub token-twice-line : (es : List Event) (j : ℕ) → checkTokens es ≡ inl (TokenTwice j) → LowestLine (TwiceAt es) (length es) j
+pub token-twice-line : (es : List Event) (j : ℕ) → checkTokens es ≡ inl (Refusal.TokenTwice j) → LowestLine (TwiceAt es) (length es) j
 unfolding checkTokens
 token-twice-line es j h = go (lowest (twice es) (length es)) refl (lowest (tooEarly es) (length es)) h
   where
-    go : (x : Option ℕ) → lowest (twice es) (length es) ≡ x → (y : Option ℕ) → refusedAt TokenTwice x (refusedAt TokenTooEarly y (inr es)) ≡ inl (TokenTwice j)
+    go : (x : Option ℕ) → lowest (twice es) (length es) ≡ x → (y : Option ℕ) → refusedAt Refusal.TokenTwice x (refusedAt Refusal.TokenTooEarly y (inr es)) ≡ inl (Refusal.TokenTwice j)
         → LowestLine (TwiceAt es) (length es) j
     go (some i) p y u = let q : i ≡ j = cc in lowest-found (TwiceAt es) (twice es) (twice-iff es) (length es) j (p ∙ ap some q)
     go none p (some i) u = let z : _≡_ {A = ℕ} 0 1 = cc in absurd (omega arith)
     go none p none u = let z : _≡_ {A = ℕ} 0 1 = cc in absurd (omega arith)
 
-pub token-early-line : (es : List Event) (i : ℕ) → checkTokens es ≡ inl (TokenTooEarly i)
+pub token-early-line : (es : List Event) (i : ℕ) → checkTokens es ≡ inl (Refusal.TokenTooEarly i)
     → LowestLine (EarlyAt es) (length es) i × ((j : ℕ) → j < length es → TwiceAt es j → ⊥)
 unfolding checkTokens
 token-early-line es i h = go (lowest (twice es) (length es)) refl (lowest (tooEarly es) (length es)) refl h
   where
     go : (x : Option ℕ) → lowest (twice es) (length es) ≡ x → (y : Option ℕ) → lowest (tooEarly es) (length es) ≡ y
-        → refusedAt TokenTwice x (refusedAt TokenTooEarly y (inr es)) ≡ inl (TokenTooEarly i)
+        → refusedAt Refusal.TokenTwice x (refusedAt Refusal.TokenTooEarly y (inr es)) ≡ inl (Refusal.TokenTooEarly i)
         → LowestLine (EarlyAt es) (length es) i × ((j : ℕ) → j < length es → TwiceAt es j → ⊥)
     go (some j) p y q u = let z : _≡_ {A = ℕ} 0 1 = cc in absurd (omega arith)
     go none p (some k) q u =

@@ -14,7 +14,7 @@ use lib.Seq.{getD-set-same, getD-set-other}
 use Rattle.events.specs.Events.{tokensOf, shares, eventsOf, eventAt, noEvent, noTokens}
 use Rattle.events.proofs.Searches.{any-same, any-none}
 use Rattle.events.proofs.TraceLaws.{event-at, length-events}
-use Rattle.trace.specs.Types.{Refusal, TokenTwice, TokenTooEarly, Event, Tokens, Trace, Outcome}
+use Rattle.trace.specs.Types.{Refusal, Event, Tokens, Trace, Outcome}
 use Rattle.trace.specs.Search.{orElse, lowest}
 use Rattle.trace.specs.TraceText.{outsAt, putsOut, twice, tooEarly, refusedAt, checkTokens, firstOf, asOutcome}
 
@@ -90,12 +90,12 @@ unfolding lowest
 placed-more refusal p k e u v w = w ∙ rw (v, u, e, add-one k) (first-placed refusal (lowest p k) (p k) k)
 
 -- 7, then 8
-first-checked : (es : List Event) (x y : Option ℕ) → asOutcome (firstOf (placed TokenTwice x) (placed TokenTooEarly y)) es ≡ refusedAt TokenTwice x (refusedAt TokenTooEarly y (inr es))
+first-checked : (es : List Event) (x y : Option ℕ) → asOutcome (firstOf (placed Refusal.TokenTwice x) (placed Refusal.TokenTooEarly y)) es ≡ refusedAt Refusal.TokenTwice x (refusedAt Refusal.TokenTooEarly y (inr es))
 first-checked es (some j) y = refl
 first-checked es none (some i) = refl
 first-checked es none none = refl
 
-pub tokens-checked : (es : List Event) (n : ℕ) {a b r : Outcome} → n ≡ length es → a ≡ placed TokenTwice (lowest (twice es) n) → b ≡ placed TokenTooEarly (lowest (tooEarly es) n)
+pub tokens-checked : (es : List Event) (n : ℕ) {a b r : Outcome} → n ≡ length es → a ≡ placed Refusal.TokenTwice (lowest (twice es) n) → b ≡ placed Refusal.TokenTooEarly (lowest (tooEarly es) n)
     → r ≡ firstOf a b → asOutcome r es ≡ checkTokens es
 unfolding checkTokens
 tokens-checked es n l e f g = rw (g, e, f, l) (first-checked es (lowest (twice es) (length es)) (lowest (tooEarly es) (length es)))

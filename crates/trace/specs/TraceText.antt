@@ -11,7 +11,7 @@ use Rattle.lines.specs.Limits.{limitOf}
 use Rattle.reader.specs.Each.{readEach}
 use Rattle.events.specs.Events.{tokensOf, anyBelow, shares, eventAt, eventsOf}
 use Rattle.eventline.specs.EventLine.{readEvent}
-use Rattle.trace.specs.Types.{Refusal, TraceTooLong, TraceUnended, TraceTooManyLines, TokenTwice, TokenTooEarly, Limit, Event, Outcome, TraceRead}
+use Rattle.trace.specs.Types.{Refusal, Limit, Event, Outcome, TraceRead}
 use Rattle.trace.specs.Search.{lowest}
 
 -- the tokens that line i takes in and puts out
@@ -41,8 +41,8 @@ refusedAt refusal (some j) rest = inl (refusal j)
 -- 7 over the trace, lowest line; then 8 likewise
 unfoldable pub checkTokens : List Event → Refusal ⊎ List Event
 checkTokens es =
-    refusedAt TokenTwice (lowest (twice es) (length es))
-    (refusedAt TokenTooEarly (lowest (tooEarly es) (length es)) (inr es))
+    refusedAt Refusal.TokenTwice (lowest (twice es) (length es))
+    (refusedAt Refusal.TokenTooEarly (lowest (tooEarly es) (length es)) (inr es))
 
 -- the lines from line k on, on each 4, 5, 6; the first refusal stands
 abbrev pub readLines : ℕ → List (List ℕ) → Refusal ⊎ List Event
@@ -54,9 +54,9 @@ onEvents (inr es) = checkTokens es
 
 -- 1, 2, 3; then the lines from the first; then 7; then 8
 abbrev pub withinLimits : Limit → Refusal ⊎ List Event → Refusal ⊎ List Event
-withinLimits Limit.TooLong rest = inl TraceTooLong
-withinLimits Limit.Unended rest = inl TraceUnended
-withinLimits Limit.TooManyLines rest = inl TraceTooManyLines
+withinLimits Limit.TooLong rest = inl Refusal.TraceTooLong
+withinLimits Limit.Unended rest = inl Refusal.TraceUnended
+withinLimits Limit.TooManyLines rest = inl Refusal.TraceTooManyLines
 withinLimits Limit.Kept rest = rest
 
 unfoldable pub readTrace : List ℕ → Refusal ⊎ List Event

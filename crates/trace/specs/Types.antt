@@ -1,6 +1,5 @@
 -- The types that this crate's definitions speak of, under one name each.
 pub use Rattle.refusals.specs.declared.refusal.Refusal.{Refusal}
-pub use Rattle.refusals.specs.declared.refusal.Refusal.the-variants.{TraceTooLong, TraceUnended, TraceTooManyLines, TokenTwice, TokenTooEarly}
 pub use Rattle.lines.specs.declared.limits.Limit.{Limit}
 pub use Rattle.events.specs.declared.event.Event.{Event}
 pub use Rattle.events.specs.declared.tokens.Tokens.{Tokens}

@@ -4,22 +4,22 @@ use mathlib.Core.Bool.{Bool, true, false}
 use Rattle.table.specs.FlowTable.{effectOf}
 use Rattle.commute.specs.Commuting.{commutes}
 use Rattle.orders.specs.Tables.{paired}
-use Rattle.verdicts.specs.Types.{Operation, Unpaired, Ordered, Commuting, Listed}
+use Rattle.verdicts.specs.Types.{Operation, Verdict}
 use Rattle.verdicts.specs.Verdicts.{verdictOf}
 
 module _ (o p : Operation) (h : Bool) {x : Bool} (e : x ≡ paired o p) where
-  pub unpaired : x ≡ false → Unpaired ≡ verdictOf o p h
+  pub unpaired : x ≡ false → Verdict.Unpaired ≡ verdictOf o p h
   unfolding verdictOf
   unpaired f = rw (sym e ∙ f) refl
 
-  pub is-ordered : x ≡ true → h ≡ true → Ordered ≡ verdictOf o p h
+  pub is-ordered : x ≡ true → h ≡ true → Verdict.Ordered ≡ verdictOf o p h
   unfolding verdictOf
   is-ordered f g = rw (sym e ∙ f, g) refl
 
-  pub is-commuting : {m : Bool} → x ≡ true → h ≡ false → m ≡ commutes (effectOf o) (effectOf p) → m ≡ true → Commuting ≡ verdictOf o p h
+  pub is-commuting : {m : Bool} → x ≡ true → h ≡ false → m ≡ commutes (effectOf o) (effectOf p) → m ≡ true → Verdict.Commuting ≡ verdictOf o p h
   unfolding verdictOf
   is-commuting f g d k = rw (sym e ∙ f, g, sym d ∙ k) refl
 
-  pub is-listed : {m : Bool} → x ≡ true → h ≡ false → m ≡ commutes (effectOf o) (effectOf p) → m ≡ false → Listed ≡ verdictOf o p h
+  pub is-listed : {m : Bool} → x ≡ true → h ≡ false → m ≡ commutes (effectOf o) (effectOf p) → m ≡ false → Verdict.Listed ≡ verdictOf o p h
   unfolding verdictOf
   is-listed f g d k = rw (sym e ∙ f, g, sym d ∙ k) refl

@@ -1,4 +1,3 @@
 -- The types that this crate's definitions speak of, under one name each.
 pub use Rattle.table.specs.declared.operation.Operation.{Operation}
 pub use Rattle.verdicts.specs.declared.verdict.Verdict.{Verdict}
-pub use Rattle.verdicts.specs.declared.verdict.Verdict.the-variants.{Unpaired, Ordered, Commuting, Listed}

@@ -10,7 +10,7 @@ use Rattle.digits.specs.Print.{Put}
 use Rattle.digits.proofs.Writing.{put-whole}
 use Rattle.rules.specs.Normal.{normalText}
 use Rattle.answers.specs.Answers.{answersText}
-use Rattle.writing.specs.Types.{Refusal, TablesShort, AnswersShort, Answer, Row, ReplayAnswer, Lengths, Refused}
+use Rattle.writing.specs.Types.{Refusal, Answer, Row, ReplayAnswer}
 use Rattle.writing.specs.Writing.{Replayed, bothTexts, fitting, answerOf, tablesIn, answersAt, Leaves}
 
 module _ {y z : Refusal ⊎ Replayed} {r : ReplayAnswer} {old new old' new' : List ℕ} where
@@ -18,23 +18,23 @@ module _ {y z : Refusal ⊎ Replayed} {r : ReplayAnswer} {old new old' new' : Li
   leaves-as e l = record { answer = l .answer ∙ ap answerOf e; tables = l .tables ∙ ap (λ x. tablesIn x old) e; answers = l .answers ∙ ap (λ x. answersAt x old') e }
 
 -- after a refusal both buffers are as they were
-pub refused-as : {y : Refusal ⊎ Replayed} {e : Refusal} {old old' : List ℕ} → inl e ≡ y → Leaves y (Refused e) old old old' old'
+pub refused-as : {y : Refusal ⊎ Replayed} {e : Refusal} {old old' : List ℕ} → inl e ≡ y → Leaves y (ReplayAnswer.Refused e) old old old' old'
 refused-as p = leaves-as p (record { answer = refl; tables = refl; answers = refl })
 
 -- ---- 32, 33, or both texts written
 module _ (rs : List Row) (given : ℕ → Answer) (n : ℕ) (old old' : List ℕ) {m : ℕ} (tables : m ≡ length (normalText rs)) where
-  pub tables-short : length old < m → Leaves (fitting (bothTexts rs given n) (length old) (length old')) (Refused (TablesShort m)) old old old' old'
+  pub tables-short : length old < m → Leaves (fitting (bothTexts rs given n) (length old) (length old')) (ReplayAnswer.Refused (Refusal.TablesShort m)) old old old' old'
   unfolding bothTexts fitting
   tables-short h = refused-as (rw tables (sym (rw (lt-ltb (length old) (length (normalText rs)) (omega arith)))))
 
   module _ (room : m ≤ length old) {k : ℕ} (answers : k ≡ length (answersText given n)) where
-    pub answers-short : length old' < k → Leaves (fitting (bothTexts rs given n) (length old) (length old')) (Refused (AnswersShort k)) old old old' old'
+    pub answers-short : length old' < k → Leaves (fitting (bothTexts rs given n) (length old) (length old')) (ReplayAnswer.Refused (Refusal.AnswersShort k)) old old old' old'
     unfolding bothTexts fitting
     answers-short h =
         refused-as (rw answers (sym (rw (le-ltb (length old) (length (normalText rs)) (omega arith), lt-ltb (length old') (length (answersText given n)) (omega arith)))))
 
     pub both-written : k ≤ length old' → {a b : ℕ} {new new' : List ℕ} → Put (normalText rs) 0 old a new → Put (answersText given n) 0 old' b new'
-        → Leaves (fitting (bothTexts rs given n) (length old) (length old')) (Lengths a b) old new old' new'
+        → Leaves (fitting (bothTexts rs given n) (length old) (length old')) (ReplayAnswer.Lengths a b) old new old' new'
     unfolding bothTexts fitting
     both-written room' {a} {b} p q =
         let e : a ≡ length (normalText rs) = omega (arith, p .after) in
@@ -42,7 +42,7 @@ module _ (rs : List Row) (given : ℕ → Answer) (n : ℕ) (old old' : List ℕ
         leaves-as {y = inr (bothTexts rs given n)}
         (sym (rw (le-ltb (length old) (length (normalText rs)) (omega arith), le-ltb (length old') (length (answersText given n)) (omega arith)) refl))
         (record {
-          answer = ap₂ Lengths e f;
+          answer = ap₂ ReplayAnswer.Lengths e f;
           tables = put-whole p (omega arith) ∙ ap (λ (i : ℕ). normalText rs ++ drop i old) e;
           answers = put-whole q (omega arith) ∙ ap (λ (i : ℕ). answersText given n ++ drop i old') f;
         })

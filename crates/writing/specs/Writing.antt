@@ -8,7 +8,7 @@ use lib.Dec.{ltb}
 use lib.ListN.{length, drop}
 use Rattle.rules.specs.Normal.{normalText}
 use Rattle.answers.specs.Answers.{answersText}
-use Rattle.writing.specs.Types.{Refusal, TablesShort, AnswersShort, Answer, Row, ReplayAnswer, Lengths, Refused}
+use Rattle.writing.specs.Types.{Refusal, Answer, Row, ReplayAnswer}
 
 -- what a replay writes: the normalised end tables, and the answers by rising event
 pub record Replayed : Type 0 where
@@ -22,14 +22,14 @@ bothTexts rs given n = record { tables = normalText rs; answers = answersText gi
 -- 32 where the tables buffer is too short, then 33 where the answers buffer is: the bytes needed
 unfoldable pub fitting : Replayed → ℕ → ℕ → Refusal ⊎ Replayed
 fitting x room room' =
-    cond (ltb room (length (x .tables))) (inl (TablesShort (length (x .tables))))
-    (cond (ltb room' (length (x .answers))) (inl (AnswersShort (length (x .answers))))
+    cond (ltb room (length (x .tables))) (inl (Refusal.TablesShort (length (x .tables))))
+    (cond (ltb room' (length (x .answers))) (inl (Refusal.AnswersShort (length (x .answers))))
     (inr x))
 
 -- its answer: both lengths, or the refusal
 abbrev pub answerOf : Refusal ⊎ Replayed → ReplayAnswer
-answerOf (inl r) = Refused r
-answerOf (inr x) = Lengths (length (x .tables)) (length (x .answers))
+answerOf (inl r) = ReplayAnswer.Refused r
+answerOf (inr x) = ReplayAnswer.Lengths (length (x .tables)) (length (x .answers))
 
 -- a buffer with a text from its start; the bytes past it unchanged
 abbrev pub startingWith : List ℕ → List ℕ → List ℕ

@@ -1,6 +1,6 @@
 use mathlib.Core.Path.{refl, ap}
 use mathlib.Core.Bool.{not}
-use Rattle.rows.specs.Types.{TableOperation, Answer, Done}
+use Rattle.rows.specs.Types.{TableOperation, Answer}
 use Rattle.rows.specs.Rows.{rowsOf}
 use Rattle.stepping.specs.Stepping.{tableReply}
 use Rattle.rows.proofs.Pass.{by-arm}
@@ -25,7 +25,7 @@ returns-2 c = by-arm (said (c .before .before)) (c .enum-told .given .1) refl
 returns-3 : tie.Need-returns-3
 unfolding tableReply said
 returns-3 c =
-    by-arm (said (c .before .before .before .before .before)) (c .before .before .before .o2 .given .1) (ap (λ b. Done (not b)) (c .any .ensures))
+    by-arm (said (c .before .before .before .before .before)) (c .before .before .before .o2 .given .1) (ap (λ b. Answer.Done (not b)) (c .any .ensures))
 
 returns-4 : tie.Need-returns-4
 unfolding tableReply said

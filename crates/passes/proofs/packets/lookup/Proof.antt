@@ -5,7 +5,7 @@ use native.Mathlib.Omega.{arith}
 use lib.ListN.{take, drop, length}
 use borrow.Author.Needs.{needs}
 use Rattle.table.specs.FlowTable.{admits}
-use Rattle.rows.specs.Types.{Miss}
+use Rattle.rows.specs.Types.{Answer}
 use Rattle.rows.specs.Rows.{onSwitch}
 use Rattle.passes.specs.Passes.{countOf}
 use Rattle.rows.proofs.Pass.{length-mapped, next, ended}
@@ -18,7 +18,7 @@ Inv-loop switch p t n answer₀ i₀ answer i =
     (countOf answer ≤ i)
     × (i ≤ n)
     × (n ≤ length (t .rows))
-    × (seenRows (onSwitch switch (admits p)) answer (drop i (take n (t .rows))) ≡ seenRows (onSwitch switch (admits p)) Miss (take n (t .rows)))
+    × (seenRows (onSwitch switch (admits p)) answer (drop i (take n (t .rows))) ≡ seenRows (onSwitch switch (admits p)) Answer.Miss (take n (t .rows)))
 
 abbrev μ-loop : tie.MeasureT-loop
 μ-loop switch p t n answer₀ i₀ answer i = n - i

@@ -10,7 +10,7 @@ use Rattle.stepping.specs.Stepping.{stepRows, replyRows}
 use Rattle.searching.proofs.Searches.{Searched, search-start, search-less, search-turn, search-end}
 use Rattle.searching.proofs.Shifts.{Shifting, bounds, shift-start, shift-turn, shift-end}
 use Rattle.runs.specs.Runs.{operationAt}
-use Rattle.running.specs.Types.{Silent}
+use Rattle.running.specs.Types.{Answer}
 use Rattle.running.specs.Running.{WorkFor}
 use Rattle.running.proofs.RunLaws.{operation-here, Runs, run-start, run-turn, rows-done, answers-done}
 use Rattle.running.proofs.running.run.Statement.{statement}
@@ -151,7 +151,7 @@ loop-again-2 c =
     let p = search-end _ _ _ _ (s .inv) (c .before .before .before .if1 .left) in
     let stored = shift-end (s .search .at) (l .len) _ _ _ (s .search .same) (made .ensures) (l .inv .1 .size) _ _ (m .inv) (room (c .before .before .before .before .before .before .before .before .before .before .before .before)) (c .loop3-test .left) _ p in (
       l .inv .0,
-      run-turn _ _ _ _ _ _ _ _ _ (l .inv .1) (c .before .before .before .before .before .before .before .before .before .before .before .before .loop-test .taken) (known (c .before .before .before .before .before .before .before .before .before .before .before)) _ _ Silent
+      run-turn _ _ _ _ _ _ _ _ _ (l .inv .1) (c .before .before .before .before .before .before .before .before .before .before .before .before .loop-test .taken) (known (c .before .before .before .before .before .before .before .before .before .before .before)) _ _ Answer.Silent
           (bounds (s .search .at) (l .len) (l .rows) _ _ (s .search .same) (made .ensures) (l .inv .1 .size) (omega (arith, s .inv .within)) .2)
           (simp length-set (m .inv .size)) (stored ∙ puts .1 _) (puts .2 _),
     )

@@ -4,7 +4,7 @@ use Prim.Native.Nat.{_-_, _≤_}
 use lib.ListN.{drop}
 use borrow.Author.Needs.{needs}
 use Rattle.causality.specs.Rows.{bit}
-use Rattle.schedule.specs.Types.{Nowhere}
+use Rattle.schedule.specs.Types.{Early}
 use Rattle.schedule.specs.Schedule.{anyBefore, earlyFrom, asPosition}
 use Rattle.schedule.proofs.SearchLaws as walk
 use Rattle.schedule.proofs.search.first_early.Statement.{statement}
@@ -19,7 +19,7 @@ abbrev μ-loop : tie.MeasureT-loop
 
 abbrev Inv-search : tie.InvT-search
 Inv-search rows order n early₀ p₀ early p =
-    (p ≤ n) × (early ≡ Nowhere) × (earlyFrom (bit rows) p (drop p order) ≡ earlyFrom (bit rows) 0 order)
+    (p ≤ n) × (early ≡ Early.Nowhere) × (earlyFrom (bit rows) p (drop p order) ≡ earlyFrom (bit rows) 0 order)
 
 abbrev μ-search : tie.MeasureT-search
 μ-search rows order n early₀ p₀ early p = n - p

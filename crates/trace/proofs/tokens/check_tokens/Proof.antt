@@ -6,7 +6,7 @@ use lib.ListN.{length}
 use borrow.Author.Needs.{needs}
 use Rattle.events.specs.Events.{eventsOf}
 use Rattle.events.proofs.TraceLaws.{length-mapped, length-events}
-use Rattle.trace.specs.Types.{TokenTwice, TokenTooEarly}
+use Rattle.trace.specs.Types.{Refusal}
 use Rattle.trace.specs.Search.{lowest}
 use Rattle.trace.specs.TraceText.{twice, tooEarly}
 use Rattle.trace.proofs.TokenChecks.{twice-test, early-test, placed, placed-more, tokens-checked}
@@ -15,7 +15,7 @@ use Rattle.trace.proofs.tokens.check_tokens.Tie as tie
 
 abbrev Inv-loop : tie.InvT-loop
 Inv-loop t n all a₀ b₀ k₀ a b k =
-    (k ≤ n) × (length (t .events) ≡ 256) × (a ≡ placed TokenTwice (lowest (twice (eventsOf t)) k)) × (b ≡ placed TokenTooEarly (lowest (tooEarly (eventsOf t)) k))
+    (k ≤ n) × (length (t .events) ≡ 256) × (a ≡ placed Refusal.TokenTwice (lowest (twice (eventsOf t)) k)) × (b ≡ placed Refusal.TokenTooEarly (lowest (tooEarly (eventsOf t)) k))
 
 abbrev μ-loop : tie.MeasureT-loop
 μ-loop t n all a₀ b₀ k₀ a b k = n - k

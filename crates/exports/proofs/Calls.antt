@@ -2,7 +2,7 @@
 use Prim.Native.Nat.{ℕ}
 use mathlib.Core.List.{List, []}
 use mathlib.Core.Path.{_≡_, refl}
-use Rattle.rules.specs.Normal.{asNormal}
+use Rattle.tables_text.specs.Normal.{asNormal}
 use Rattle.exports.specs.Types.{Refusal, Counts, ListAnswer, NormalAnswer, ReplayAnswer, Refused}
 use Rattle.refusals.specs.Refused.{nothingRefused, refusedAs}
 use Rattle.exports.specs.Calls.{listAs, normalAs, replayAs}

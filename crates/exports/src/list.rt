@@ -1,9 +1,9 @@
 // The list call.
-use races::ListAnswer;
+use list_call::ListAnswer;
 use refusals::Refused;
 ghost use mathlib.Core.Path.{_≡_};
 ghost use lib.ListN.{length};
-ghost use Rattle.races.specs.Races.{listAnswer, listBuffer};
+ghost use Rattle.list_call.specs.Races.{listAnswer, listBuffer};
 ghost use Rattle.exports.specs.Calls.{listAs};
 
 // The four counts, or what is refused.
@@ -50,6 +50,6 @@ pub extern "C" fn gellunka_list_races(trace: &[u8], out: &mut [u8]) -> Listed
     ensures { λ r. ⌜ r ≡ listAs (now (trace .entry)) (listAnswer (now (trace .entry)) (length (now (out .entry)))) ⌝ }
     ensures { λ _. ⌜ now (out .exit) ≡ listBuffer (now (trace .entry)) (now (out .entry)) ⌝ }
 {
-    let answer = races::list_races(trace, out);
+    let answer = list_call::list_races(trace, out);
     list_as(trace, answer)
 }

@@ -1,8 +1,8 @@
 // The normaliser's call.
 use refusals::Refused;
-use rules::NormalAnswer;
+use tables_text::NormalAnswer;
 ghost use mathlib.Core.Path.{_≡_};
-ghost use Rattle.rules.specs.Normal.{normalised, asNormal};
+ghost use Rattle.tables_text.specs.Normal.{normalised, asNormal};
 ghost use Rattle.exports.specs.Calls.{normalAs};
 
 // The length of the normal text, or what is refused.
@@ -33,6 +33,6 @@ pub extern "C" fn gellunka_normalise(tables: &[u8], out: &mut [u8]) -> Normalise
     ensures { λ r. ⌜ r ≡ normalAs (now (tables .entry)) (normalised (now (tables .entry)) (now (out .entry)) .0) ⌝ }
     ensures { λ _. ⌜ now (out .exit) ≡ normalised (now (tables .entry)) (now (out .entry)) .1 ⌝ }
 {
-    let answer = rules::normalise(tables, out);
+    let answer = tables_text::normalise(tables, out);
     normal_as(tables, answer)
 }

@@ -1,9 +1,9 @@
 // The replay call.
 use refusals::Refused;
-use writing::ReplayAnswer;
+use replay_texts::ReplayAnswer;
 ghost use mathlib.Core.Path.{_≡_};
 ghost use lib.ListN.{length};
-ghost use Rattle.replay.specs.Replay.{replayAnswer, tablesAfter, answersAfter};
+ghost use Rattle.replay_call.specs.Replay.{replayAnswer, tablesAfter, answersAfter};
 ghost use Rattle.exports.specs.Calls.{replayAs};
 
 // The lengths of the end tables and of the answers, or what is refused.
@@ -51,6 +51,6 @@ pub extern "C" fn gellunka_replay<'a>(
     ensures { λ _. ⌜ now (out .exit) ≡ tablesAfter (now (trace .entry)) (now (tables .entry)) (now (order .entry)) (now (out .entry)) (now (replies .entry)) ⌝ }
     ensures { λ _. ⌜ now (replies .exit) ≡ answersAfter (now (trace .entry)) (now (tables .entry)) (now (order .entry)) (now (out .entry)) (now (replies .entry)) ⌝ }
 {
-    let answer = replay::replay(trace, tables, order, out, replies);
+    let answer = replay_call::replay(trace, tables, order, out, replies);
     replay_as(trace, tables, answer)
 }

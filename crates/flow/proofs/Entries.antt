@@ -7,7 +7,7 @@ use native.Mathlib.Omega.{arith}
 use borrow.Author.Tests.{eqb-true, eq-eqb}
 use Rattle.flow.specs.Types.{Exact, Match, Action, Key, Ordering}
 use Rattle.flow.specs.Entries.{exactRank, rank, matchOrder, keyOrder, isEqual, sameKey, actionCode, sameAction}
-use Rattle.flow.proofs.Booleans.{split}
+use Rattle.basics.proofs.Booleans.{split}
 use Rattle.flow.proofs.Orders.{IsOrder, opposite, falling, lexicographic, in-turn}
 
 exact-apart : (a b : Exact) → exactRank a ≡ exactRank b → a ≡ b

@@ -7,7 +7,7 @@ use lib.Dec.{eqb}
 use borrow.Author.Tests.{eqb-true, eqb-false, eq-eqb, ne-eqb}
 use Rattle.flow.specs.Types.{Exact}
 use Rattle.flow.specs.Matches.{exactFits, exactOverlaps, exactWithin, exactMeet, exactPoint, ExactInRange}
-use Rattle.flow.proofs.Booleans.{and-absorb}
+use Rattle.basics.proofs.Booleans.{and-absorb}
 use Rattle.flow.proofs.Field.{IsField}
 
 point-fits : (a : Exact) → exactFits a (exactPoint a) ≡ true

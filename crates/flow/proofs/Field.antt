@@ -3,7 +3,7 @@
 -- Assumes nothing.
 use mathlib.Core.Path.{_≡_, refl, sym, _∙_}
 use mathlib.Core.Bool.{Bool, true, false, _&&_, true≢false}
-use Rattle.flow.proofs.Booleans.{split, and-intro, and-left, and-right, and-cases, and-false-right, and-swap}
+use Rattle.basics.proofs.Booleans.{split, and-intro, and-left, and-right, and-cases, and-false-right, and-swap}
 
 pub record IsField {M : Type 0} {X : Type 0} (okM : M → Type 0) (okX : X → Type 0) (fits : M → X → Bool) (within overlaps : M → M → Bool) (meet : M → M → M)
     (point : M → X) : Type 0 where

@@ -5,7 +5,7 @@ use Prim.Native.Nat.{_/_, _-_, _^_, min}
 use lib.Dec.{eqb, leb}
 use Rattle.flow.specs.Types.{Prefix, Match, Packet}
 use Rattle.flow.specs.Matches.{exactFits, exactOverlaps, exactWithin, prefixFits, fits, overlaps, within, MatchInRange}
-use Rattle.flow.proofs.Booleans.{and-false-right}
+use Rattle.basics.proofs.Booleans.{and-false-right}
 use Rattle.flow.proofs.PrefixField.{prefix-overlaps-leading, prefix-within-leading}
 
 abbrev leadingOverlaps : Prefix → Prefix → Bool

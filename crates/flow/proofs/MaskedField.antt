@@ -6,7 +6,7 @@ use lib.Dec.{eqb}
 use lib.Bits.{bitAnd, bitOr, bitXor, and-lt, or-lt, xor-lt}
 use borrow.Author.Tests.{eq-eqb, eqb-true}
 use Rattle.flow.specs.Matches.{Masked, maskedFits, maskedOverlaps, maskedWithin, maskedMeet, maskedClear}
-use Rattle.flow.proofs.Booleans.{split, both-ways, and-intro, and-left, and-right}
+use Rattle.basics.proofs.Booleans.{split, both-ways, and-intro, and-left, and-right}
 use Rattle.flow.proofs.Digits.{digit, digit-and, digit-or, digit-xor, known-by-digits, xorb}
 use Rattle.flow.proofs.Field.{IsField}
 

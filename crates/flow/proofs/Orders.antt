@@ -8,7 +8,7 @@ use lib.Dec.{ltb}
 use borrow.Author.Tests.{lt-ltb, le-ltb, ltb-true, ltb-false}
 use Rattle.flow.specs.Types.{Ordering}
 use Rattle.flow.specs.Entries.{orderOf, thenBy, lexical}
-use Rattle.flow.proofs.Booleans.{split}
+use Rattle.basics.proofs.Booleans.{split}
 
 abbrev pub opposite : Ordering → Ordering
 opposite Ordering.Less = Ordering.Greater

@@ -7,7 +7,7 @@ use lib.Dec.{eqb, ltb}
 use borrow.Author.Tests.{eq-eqb, ne-eqb, ltb-true, ltb-false}
 use Rattle.flow.specs.Types.{Match, Key, Ordering}
 use Rattle.flow.specs.Entries.{orderOf, thenBy, rank, matchOrder, keyOrder, isEqual, sameKey, sameMatch}
-use Rattle.flow.proofs.Booleans.{split, and-assoc, and-true}
+use Rattle.basics.proofs.Booleans.{split, and-assoc, and-true}
 
 equal-then : (a b : ℕ) (o : Ordering) → isEqual (thenBy (orderOf a b) o) ≡ (eqb a b && isEqual o)
 unfolding thenBy orderOf

@@ -1,24 +1,24 @@
 // Reads a table text from standard input, and writes its normal form or what is refused to standard output.
 use libc::STDIN_FILENO;
 use libc::STDOUT_FILENO;
-use rules::NormalAnswer;
+use tables_text::NormalAnswer;
 
 fn answer(tables: &[u8]) {
     let mut out = io::large_buffer();
-    let a = rules::normalise(tables, &mut out);
+    let a = tables_text::normalise(tables, &mut out);
     match a {
         NormalAnswer::Length(n) => {
-            io::write_all(STDOUT_FILENO, lines::front(&out, n));
+            io::write_all(STDOUT_FILENO, text_lines::front(&out, n));
         }
         NormalAnswer::Refused(e) => {
-            output::refused(b"", tables, e);
+            program_output::refused(b"", tables, e);
         }
     }
 }
 
 fn main() {
     let mut buf = io::large_buffer();
-    let input = input::read_all(STDIN_FILENO, &mut buf);
+    let input = program_input::read_all(STDIN_FILENO, &mut buf);
     if !input.ok {
         os::fail(b"standard input");
         return;

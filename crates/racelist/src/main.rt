@@ -4,8 +4,8 @@ use libc::STDOUT_FILENO;
 
 // What is printed takes at most 425,000 bytes, and goes out with one write.
 fn answer(trace: &[u8]) {
-    let mut out = report::room();
-    let n = report::report(trace, &mut out);
+    let mut out = list_report::room();
+    let n = list_report::report(trace, &mut out);
     if !io::write_all(STDOUT_FILENO, &out[..n]) {
         os::fail(b"standard output");
     }
@@ -13,7 +13,7 @@ fn answer(trace: &[u8]) {
 
 fn main() {
     let mut buf = io::large_buffer();
-    let input = input::read_all(STDIN_FILENO, &mut buf);
+    let input = program_input::read_all(STDIN_FILENO, &mut buf);
     if !input.ok {
         os::fail(b"standard input");
         return;

@@ -3,7 +3,7 @@ use mathlib.Core.List.{List}
 use mathlib.Core.Path.{_≡_}
 use Prim.Native.Nat.{ℕ}
 use lib.ListN.{take, drop}
-use Rattle.lines.proofs.Laws.{line-part}
+use Rattle.text_lines.proofs.Laws.{line-part}
 use Rattle.refusals.specs.Types.{Refusal}
 use Rattle.refusals.specs.Refusals.{placeOf, sourceOf, textIn, lineOf}
 use Rattle.refusals.specs.Refused.{startOf, refusedAs}

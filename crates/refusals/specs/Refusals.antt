@@ -2,7 +2,7 @@
 use mathlib.Core.List.{List, []}
 use Prim.Native.Nat.{ℕ}
 use lib.ListN.{getD}
-use Rattle.lines.specs.Lines.{lines}
+use Rattle.text_lines.specs.Lines.{lines}
 use Rattle.refusals.specs.Types.{Refusal, Source, Returned}
 
 -- a row of the table: number, place, and the text of which the place is a line

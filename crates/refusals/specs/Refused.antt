@@ -2,7 +2,7 @@
 use mathlib.Core.List.{List}
 use Prim.Native.Nat.{ℕ}
 use lib.ListN.{length}
-use Rattle.lines.specs.Lines.{lineStart}
+use Rattle.text_lines.specs.Lines.{lineStart}
 use Rattle.refusals.specs.Types.{Refusal, Refused}
 use Rattle.refusals.specs.Refusals.{numberOf, placeOf, sourceOf, textIn, lineOf}
 

@@ -33,8 +33,8 @@ impl Refused {
         let place = returned.place;
         let source = returned.source;
         let text = text_in(source, trace, tables);
-        let start = lines::line_start(text, place);
-        let line = lines::line_at(text, place);
+        let start = text_lines::line_start(text, place);
+        let line = text_lines::line_at(text, place);
         let length = line.len();
         Refused {
             number,

@@ -1,9 +1,9 @@
 // Replays the traces of its data files in the recorded order, into buffers that are a byte too short, and in the orders of another
 // file, a line for each. What must come out is in the file `stdout`: `ops` has each operation and its answers, each on a switch of
 // its own; `small` all 120 orders of five events, and orders that are none; `full` 256 events on 256 entries.
-use input::Input;
 use libc::STDOUT_FILENO;
-use writing::ReplayAnswer;
+use program_input::Input;
+use replay_texts::ReplayAnswer;
 ghost use Rattle.io.specs.Counts.{Counts};
 
 // An answer: both texts, or the refusal.
@@ -16,11 +16,11 @@ fn print_answer<'a>(
 ) {
     match a {
         ReplayAnswer::Lengths(n, m) => {
-            io::write_all(STDOUT_FILENO, lines::front(ends, n));
-            io::write_all(STDOUT_FILENO, lines::front(answers, m));
+            io::write_all(STDOUT_FILENO, text_lines::front(ends, n));
+            io::write_all(STDOUT_FILENO, text_lines::front(answers, m));
         }
         ReplayAnswer::Refused(e) => {
-            output::refused(trace, tables, e);
+            program_output::refused(trace, tables, e);
         }
     }
 }
@@ -28,7 +28,7 @@ fn print_answer<'a>(
 fn replay_order<'a>(trace: &'a [u8], tables: &'a [u8], order: &[u8]) {
     let mut ends = io::large_buffer();
     let mut answers = [0u8; 8192];
-    let a = replay::replay(trace, tables, order, &mut ends, &mut answers);
+    let a = replay_call::replay(trace, tables, order, &mut ends, &mut answers);
     print_answer(trace, tables, a, &ends, &answers);
 }
 
@@ -44,11 +44,11 @@ fn replay_within<'a>(
     ends: &mut [u8],
     answers: &mut [u8],
 ) {
-    let a = replay::replay(trace, tables, order, ends, answers);
+    let a = replay_call::replay(trace, tables, order, ends, answers);
     print_answer(trace, tables, a, ends, answers);
     if 0 < ends.len() {
-        output::field(b"first=", wide(ends[0]));
-        output::end_line();
+        program_output::field(b"first=", wide(ends[0]));
+        program_output::end_line();
     }
 }
 
@@ -67,7 +67,7 @@ fn replay_short<'a>(trace: &'a [u8], tables: &'a [u8], order: &[u8], n: usize, m
 fn replay_shorter<'a>(trace: &'a [u8], tables: &'a [u8], order: &[u8]) {
     let mut ends = io::large_buffer();
     let mut answers = [0u8; 8192];
-    let a = replay::replay(trace, tables, order, &mut ends, &mut answers);
+    let a = replay_call::replay(trace, tables, order, &mut ends, &mut answers);
     match a {
         ReplayAnswer::Lengths(n, m) => {
             if 0 < n {
@@ -82,28 +82,28 @@ fn replay_shorter<'a>(trace: &'a [u8], tables: &'a [u8], order: &[u8]) {
 }
 
 fn replay_recorded<'a>(trace: &'a [u8], tables: &'a [u8]) {
-    let order = schedule::recorded_order();
-    let recorded = lines::front(&order, lines::count_lines(trace));
+    let order = order_check::recorded_order();
+    let recorded = text_lines::front(&order, text_lines::count_lines(trace));
     io::write_all(STDOUT_FILENO, b"order recorded\n");
     replay_order(trace, tables, recorded);
     replay_shorter(trace, tables, recorded);
 }
 
 fn replay_line<'a>(trace: &'a [u8], tables: &'a [u8], orders: &[u8], k: usize) {
-    output::field(b"order ", k as u64);
-    output::end_line();
-    replay_order(trace, tables, lines::line_at(orders, k));
+    program_output::field(b"order ", k as u64);
+    program_output::end_line();
+    replay_order(trace, tables, text_lines::line_at(orders, k));
 }
 
 fn replay_lines<'a>(trace: &'a [u8], tables: &'a [u8], orders: &[u8]) {
-    for k in 0..lines::count_lines(orders) {
+    for k in 0..text_lines::count_lines(orders) {
         replay_line(trace, tables, orders, k);
     }
 }
 
 fn replay_texts<'a>(trace: &'a [u8], tables: &'a [u8], orders_name: &[u8]) {
     let mut orders = io::buffer();
-    let read = input::read_file(orders_name, &mut orders);
+    let read = program_input::read_file(orders_name, &mut orders);
     if read.ok {
         let n = read.len;
         replay_recorded(trace, tables);
@@ -114,11 +114,11 @@ fn replay_texts<'a>(trace: &'a [u8], tables: &'a [u8], orders_name: &[u8]) {
 fn replay_files(name: &[u8], trace_name: &[u8], tables_name: &[u8], orders_name: &[u8]) {
     io::write_all(STDOUT_FILENO, b"trace ");
     io::write_all(STDOUT_FILENO, name);
-    output::end_line();
+    program_output::end_line();
     let mut trace = io::large_buffer();
     let mut tables = io::large_buffer();
-    let first = input::read_file(trace_name, &mut trace);
-    let second = input::read_file(tables_name, &mut tables);
+    let first = program_input::read_file(trace_name, &mut trace);
+    let second = program_input::read_file(tables_name, &mut tables);
     if first.ok & second.ok {
         let n = first.len;
         let m = second.len;

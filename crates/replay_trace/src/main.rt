@@ -1,9 +1,9 @@
 // replay_trace TRACE TABLES [ORDER]: replays the trace of a file from the tables of another, in the order whose bytes a third holds,
 // one for each event; left out, in the recorded order. Prints the end tables and then the answers, or what is refused.
-use input::Input;
 use libc::STDERR_FILENO;
 use libc::STDOUT_FILENO;
-use writing::ReplayAnswer;
+use program_input::Input;
+use replay_texts::ReplayAnswer;
 ghost use Rattle.io.specs.Counts.{Counts};
 
 // Reads the file that an argument names.
@@ -16,32 +16,32 @@ fn read_arg(i: usize, buf: &mut [u8]) -> Input
         os::fail(b"argument");
         return Input { ok: false, len: 0 };
     }
-    input::read_file(&name[..n], buf)
+    program_input::read_file(&name[..n], buf)
 }
 
 // Both texts, or the refusal. The buffers hold the longest texts that there are: 512 lines of 105 bytes, and 256 of 29.
 fn print_replay<'a>(trace: &'a [u8], tables: &'a [u8], order: &[u8]) {
     let mut ends = io::large_buffer();
     let mut answers = [0u8; 8192];
-    let a = replay::replay(trace, tables, order, &mut ends, &mut answers);
+    let a = replay_call::replay(trace, tables, order, &mut ends, &mut answers);
     match a {
         ReplayAnswer::Lengths(n, m) => {
-            io::write_all(STDOUT_FILENO, lines::front(&ends, n));
-            io::write_all(STDOUT_FILENO, lines::front(&answers, m));
+            io::write_all(STDOUT_FILENO, text_lines::front(&ends, n));
+            io::write_all(STDOUT_FILENO, text_lines::front(&answers, m));
         }
         ReplayAnswer::Refused(e) => {
-            output::refused(trace, tables, e);
+            program_output::refused(trace, tables, e);
         }
     }
 }
 
 // In the recorded order of a trace with so many lines.
 fn print_recorded<'a>(trace: &'a [u8], tables: &'a [u8]) {
-    let order = schedule::recorded_order();
+    let order = order_check::recorded_order();
     print_replay(
         trace,
         tables,
-        lines::front(&order, lines::count_lines(trace)),
+        text_lines::front(&order, text_lines::count_lines(trace)),
     );
 }
 

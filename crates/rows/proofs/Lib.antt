@@ -1,5 +1,4 @@
 pub mod RowOrder
 pub mod RowLaws
 pub mod TablesOf
-pub mod Pass
 pub mod InOrder

@@ -10,11 +10,11 @@ use native.Mathlib.Omega.{arith}
 use lib.Dec.{eqb}
 use borrow.Author.Tests.{eqb-true, eq-eqb}
 use Rattle.flow.specs.Entries.{thenBy, keyOrder, sameKey}
-use Rattle.flow.proofs.Booleans.{split, and-left, and-right, cond-same, cond-swap}
+use Rattle.basics.proofs.Booleans.{split, and-left, and-right, cond-same, cond-swap}
 use Rattle.flow.proofs.Orders.{number-equal}
 use Rattle.flow.proofs.Entries.{same-eq}
-use Rattle.table.specs.FlowTable.{Before, Sorted, get, insert, removeIf, assignIf, anyOf}
-use Rattle.table.proofs.TableLaws.{sorted-insert as sorted-insert-entry, get-insert, table-ext}
+use Rattle.flow_table.specs.FlowTable.{Before, Sorted, get, insert, removeIf, assignIf, anyOf}
+use Rattle.flow_table.proofs.TableLaws.{sorted-insert as sorted-insert-entry, get-insert, table-ext}
 use Rattle.rows.specs.Types.{Action, Key, Entry, Ordering, Row}
 use Rattle.rows.specs.Rows.{row, rowOrder, RowBefore, SortedRows, tableOf, insertRowBy, insertRow, removeRows, assignRow, assignRows, anyRow, onSwitch}
 use Rattle.rows.proofs.RowOrder.{slotOf, row-same, row-self, like-slot}

@@ -7,8 +7,8 @@ use Prim.Native.Nat.{ℕ}
 use lib.Dec.{eqb}
 use lib.ListN.{take}
 use Rattle.flow.specs.Entries.{orderOf, thenBy, keyOrder, isEqual, sameKey}
-use Rattle.table.specs.FlowTable.{Table, inside, clash, admits}
-use Rattle.orders.specs.Tables.{Tables}
+use Rattle.flow_table.specs.FlowTable.{Table, inside, clash, admits}
+use Rattle.flow_table.specs.Switches.{Tables}
 use Rattle.rows.specs.Types.{Action, Key, Entry, Ordering, Row, Rows, Filter}
 
 -- the rows that an array holds

@@ -24,7 +24,7 @@ impl Filter {
         match self {
             Filter::Same(k) => k.same(key),
             Filter::Within(m) => n.within(m),
-            Filter::Clash(k) => table::clash(k, key),
+            Filter::Clash(k) => flow_table::clash(k, key),
             Filter::Fits(p) => n.fits(p),
         }
     }

@@ -1,7 +1,7 @@
 // Reads the trace texts of its data files: the number of events, or the refusal with the refused line. What must come out is in the
 // file `stdout`.
 use libc::STDOUT_FILENO;
-use trace::Outcome;
+use trace_text::Outcome;
 
 // The files 000 and on: accepted texts; then refusals 1, 2 and 3; then malformed lines, item by item; then 5, 6, 7, 8 and texts with
 // several faults.
@@ -10,17 +10,17 @@ const CASES: u8 = 150;
 fn answer(text: &[u8], outcome: Outcome, events: usize) {
     match outcome {
         Outcome::Accepted => {
-            output::field(b"accepted events=", events as u64);
-            output::end_line();
+            program_output::field(b"accepted events=", events as u64);
+            program_output::end_line();
         }
         Outcome::Refused(r) => {
-            output::refused(text, b"", r);
+            program_output::refused(text, b"", r);
         }
     }
 }
 
 fn read_text(text: &[u8]) {
-    let result = trace::read_trace(text);
+    let result = trace_text::read_trace(text);
     let outcome = result.outcome;
     let events = result.trace;
     answer(text, outcome, events.len);
@@ -28,7 +28,7 @@ fn read_text(text: &[u8]) {
 
 fn read_file(path: &[u8]) {
     let mut buf = io::large_buffer();
-    let input = input::read_file(path, &mut buf);
+    let input = program_input::read_file(path, &mut buf);
     if input.ok {
         let n = input.len;
         read_text(&buf[..n]);
@@ -40,7 +40,7 @@ fn numbered(i: u8) {
     let name = [b'0' + i / 100 % 10, b'0' + i / 10 % 10, b'0' + i % 10];
     io::write_all(STDOUT_FILENO, b"text ");
     io::write_all(STDOUT_FILENO, &name);
-    output::end_line();
+    program_output::end_line();
     read_file(&name);
 }
 

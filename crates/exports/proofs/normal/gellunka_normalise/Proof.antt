@@ -1,5 +1,5 @@
 use mathlib.Core.Path.{ap, _∙_}
-use Rattle.rules.specs.Normal.{Normalised}
+use Rattle.tables_text.specs.Normal.{Normalised}
 use Rattle.exports.specs.Calls.{normalAs}
 use borrow.Author.Needs.{needs}
 use Rattle.exports.proofs.normal.gellunka_normalise.Statement.{statement}

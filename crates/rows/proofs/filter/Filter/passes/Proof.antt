@@ -1,5 +1,5 @@
 use Rattle.rows.specs.Rows.{passes}
-use Rattle.rows.proofs.Pass.{by-arm}
+use Rattle.basics.proofs.Arrays.{by-arm}
 use borrow.Author.Needs.{needs}
 use Rattle.rows.proofs.filter.Filter.passes.Statement.{statement}
 use Rattle.rows.proofs.filter.Filter.passes.Tie as tie

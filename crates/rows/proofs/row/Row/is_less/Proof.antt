@@ -1,7 +1,7 @@
 use mathlib.Core.Path.{refl, sym, _∙_}
 use borrow.Author.Needs.{needs}
 use Rattle.rows.specs.Rows.{isLess}
-use Rattle.rows.proofs.Pass.{by-arm}
+use Rattle.basics.proofs.Arrays.{by-arm}
 use Rattle.rows.proofs.row.Row.is_less.Statement.{statement}
 use Rattle.rows.proofs.row.Row.is_less.Tie as tie
 

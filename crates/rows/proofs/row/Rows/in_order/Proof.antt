@@ -6,7 +6,7 @@ use native.Mathlib.Omega.{arith}
 use lib.ListN.{take, length}
 use borrow.Author.Needs.{needs}
 use Rattle.rows.specs.Rows.{SortedRows}
-use Rattle.rows.proofs.Pass.{length-mapped}
+use Rattle.basics.proofs.Arrays.{length-mapped}
 use Rattle.rows.proofs.InOrder.{in-order-one, in-order-next, in-order-under, in-order-not}
 use Rattle.rows.proofs.row.Rows.in_order.Statement.{statement}
 use Rattle.rows.proofs.row.Rows.in_order.Tie as tie

@@ -1,0 +1,4 @@
+pub mod Booleans
+pub mod Searches
+pub mod Gathered
+pub mod Arrays

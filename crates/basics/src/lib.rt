@@ -1,0 +1,1 @@
+// Texts, searches and lists: definitions and laws only.

@@ -1,3 +1,0 @@
--- The types that this crate's definitions speak of, under one name each.
-pub use Rattle.events.specs.declared.event.Event.{Event}
-pub use Rattle.events.specs.declared.trace.Trace.{Trace}

@@ -1,5 +1,0 @@
-pub mod Sound
-pub mod Exact
-pub mod Theorems
-pub mod Marked
-pub mod Decided

@@ -1,0 +1,4 @@
+pub mod Sound
+pub mod Exact
+pub mod Theorems
+pub mod Marked

@@ -1,0 +1,164 @@
+-- Document 01, "Commuting": what it means, the document's table as a test, and a table of at most one entry that tells apart the
+-- two orders of each pair that does not commute. The test is exact (proofs/Theorems.antt).
+use mathlib.Core.Path.{_≡_}
+use mathlib.Core.Bool.{Bool, true, _&&_, _||_, not, cond}
+use mathlib.Core.List.{[], _∷_}
+use Prim.Native.Nat.{ℕ, _≤_}
+use lib.ListN.{length}
+use Rattle.flow.specs.Matches.{fits, overlaps, within, meet, MatchInRange, PacketInRange}
+use Rattle.flow.specs.Entries.{sameKey, sameAction, KeyInRange, ActionInRange}
+use Rattle.flow_table.specs.FlowTable.{Table, entry, Sorted, TableInRange, Effect, pkt, add, addc, modn, dels, deln, idle, after, answer, clash}
+use Rattle.commuting.specs.Types.{Match, Packet, Action, Key}
+
+-- on the table t both orders leave the same table and give each event the same answer
+pub record Agree (v w : Effect) (t : Table) : Type 0 where
+  pub tables : after w (after v t) ≡ after v (after w t)
+  pub first : answer v (after w t) ≡ answer v t
+  pub second : answer w (after v t) ≡ answer w t
+
+-- two events commute if they agree on every finite table
+abbrev pub Commute : Effect → Effect → Type 0
+Commute v w = (t : Table) → Sorted t → Agree v w t
+
+-- ---- the document's table, a row each; 1 and 2 as named left and right
+-- pkt, any write: the packet doesn't fit the match
+abbrev pub pkt-write : Packet → Match → Bool
+pkt-write p m = not (fits m p)
+
+-- add, add: actions equal or keys differ
+abbrev pub add-add : Key → Action → Key → Action → Bool
+add-add j a k b = sameAction a b || not (sameKey j k)
+
+-- add, dels: keys differ
+abbrev pub add-dels : Key → Key → Bool
+add-dels j k = not (sameKey k j)
+
+-- add, deln: 1 not within 2
+abbrev pub add-deln : Key → Match → Bool
+add-deln j m = not (within (j .pattern) m)
+
+-- add, modn: 1 not within 2, or same action and key
+abbrev pub add-modn : Key → Action → Key → Action → Bool
+add-modn j a k b = not (within (j .pattern) (k .pattern)) || (sameAction a b && sameKey j k)
+
+-- addc with add, addc or dels: priorities differ or no overlap
+abbrev pub addc-other : Key → Key → Bool
+addc-other j k = not (clash j k)
+
+-- addc, modn: 1 not within 2, and (priorities differ or no overlap)
+abbrev pub addc-modn : Key → Key → Bool
+addc-modn j k = not (within (j .pattern) (k .pattern)) && not (clash j k)
+
+-- addc, deln; modn, deln: no overlap
+abbrev pub apart-deln : Key → Match → Bool
+apart-deln j m = not (overlaps (j .pattern) m)
+
+-- modn, dels: 2 not within 1
+abbrev pub modn-dels : Key → Key → Bool
+modn-dels j k = not (within (k .pattern) (j .pattern))
+
+-- modn, modn: no overlap; or equal actions and neither within the other; or same action and key
+abbrev pub modn-modn : Key → Action → Key → Action → Bool
+modn-modn j a k b =
+    not (overlaps (j .pattern) (k .pattern))
+    || ((sameAction a b && (not (within (j .pattern) (k .pattern)) && not (within (k .pattern) (j .pattern))))
+    || (sameAction a b && sameKey j k))
+
+-- which row is for which pair, both ways round; pkt with pkt and delete with delete always commute
+unfoldable pub commutes : Effect → Effect → Bool
+commutes idle w = true
+commutes (pkt p) idle = true
+commutes (pkt p) (pkt q) = true
+commutes (pkt p) (add k b) = pkt-write p (k .pattern)
+commutes (pkt p) (addc k b) = pkt-write p (k .pattern)
+commutes (pkt p) (modn k b) = pkt-write p (k .pattern)
+commutes (pkt p) (dels k) = pkt-write p (k .pattern)
+commutes (pkt p) (deln m) = pkt-write p m
+commutes (add j a) idle = true
+commutes (add j a) (pkt p) = pkt-write p (j .pattern)
+commutes (add j a) (add k b) = add-add j a k b
+commutes (add j a) (addc k b) = addc-other k j
+commutes (add j a) (modn k b) = add-modn j a k b
+commutes (add j a) (dels k) = add-dels j k
+commutes (add j a) (deln m) = add-deln j m
+commutes (addc j a) idle = true
+commutes (addc j a) (pkt p) = pkt-write p (j .pattern)
+commutes (addc j a) (add k b) = addc-other j k
+commutes (addc j a) (addc k b) = addc-other j k
+commutes (addc j a) (modn k b) = addc-modn j k
+commutes (addc j a) (dels k) = addc-other j k
+commutes (addc j a) (deln m) = apart-deln j m
+commutes (modn j a) idle = true
+commutes (modn j a) (pkt p) = pkt-write p (j .pattern)
+commutes (modn j a) (add k b) = add-modn k b j a
+commutes (modn j a) (addc k b) = addc-modn k j
+commutes (modn j a) (modn k b) = modn-modn j a k b
+commutes (modn j a) (dels k) = modn-dels j k
+commutes (modn j a) (deln m) = apart-deln j m
+commutes (dels j) idle = true
+commutes (dels j) (pkt p) = pkt-write p (j .pattern)
+commutes (dels j) (add k b) = add-dels k j
+commutes (dels j) (addc k b) = addc-other k j
+commutes (dels j) (modn k b) = modn-dels k j
+commutes (dels j) (dels k) = true
+commutes (dels j) (deln m) = true
+commutes (deln m) idle = true
+commutes (deln m) (pkt p) = pkt-write p m
+commutes (deln m) (add k b) = add-deln k m
+commutes (deln m) (addc k b) = apart-deln k m
+commutes (deln m) (modn k b) = apart-deln k m
+commutes (deln m) (dels k) = true
+commutes (deln m) (deln n) = true
+
+-- ---- a table of at most one entry that tells the two orders apart, where the test says no
+abbrev pub one : Key → Table
+one k = entry k Action.Drop ∷ []
+
+abbrev pub at : ℕ → Match → Key
+at n m = record { priority = n; pattern = m }
+
+unfoldable pub witness : Effect → Effect → Table
+witness idle w = []
+witness (pkt p) idle = []
+witness (pkt p) (pkt q) = []
+witness (pkt p) (add k b) = []
+witness (pkt p) (addc k b) = []
+witness (pkt p) (modn k b) = []
+witness (pkt p) (dels k) = one k
+witness (pkt p) (deln m) = one (at 0 m)
+witness (add j a) w = []
+witness (addc j a) idle = []
+witness (addc j a) (pkt p) = []
+witness (addc j a) (add k b) = []
+witness (addc j a) (addc k b) = []
+witness (addc j a) (modn k b) = []
+witness (addc j a) (dels k) = one k
+witness (addc j a) (deln m) = one (at (j .priority) (meet (j .pattern) m))
+witness (modn j a) idle = []
+witness (modn j a) (pkt p) = []
+witness (modn j a) (add k b) = []
+witness (modn j a) (addc k b) = []
+witness (modn j a) (modn k b) = cond (sameAction a b) [] (one (at 0 (meet (j .pattern) (k .pattern))))
+witness (modn j a) (dels k) = one k
+witness (modn j a) (deln m) = one (at 0 (meet (j .pattern) m))
+witness (dels j) idle = []
+witness (dels j) (pkt p) = one j
+witness (dels j) (add k b) = []
+witness (dels j) (addc k b) = one j
+witness (dels j) (modn k b) = one j
+witness (dels j) (dels k) = []
+witness (dels j) (deln m) = []
+witness (deln m) idle = []
+witness (deln m) (pkt p) = one (at 0 m)
+witness (deln m) (add k b) = []
+witness (deln m) (addc k b) = one (at (k .priority) (meet (k .pattern) m))
+witness (deln m) (modn k b) = one (at 0 (meet (k .pattern) m))
+witness (deln m) (dels k) = []
+witness (deln m) (deln n) = []
+
+-- a table in order and in range, of at most one entry, that tells two events' orders apart
+pub record Told (v w : Effect) (t : Table) : Type 0 where
+  pub sorted : Sorted t
+  pub inRange : TableInRange t
+  pub small : length t ≤ 1
+  pub apart : Agree v w t → ⊥

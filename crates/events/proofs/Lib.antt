@@ -1,3 +1,0 @@
-pub mod TokenLaws
-pub mod TraceLaws
-pub mod Searches

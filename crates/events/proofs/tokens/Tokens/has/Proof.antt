@@ -1,9 +1,0 @@
-use Rattle.events.proofs.TokenLaws.{has-tested}
-use Rattle.events.proofs.tokens.Tokens.has.Statement.{statement}
-use Rattle.events.proofs.tokens.Tokens.has.Tie as tie
-
-returns : tie.Need-returns
-returns c = has-tested _ _
-
-pub has-spec : {M : Type 1} → statement M
-has-spec = tie.close (tie.spec returns)

@@ -1,0 +1,33 @@
+-- Document 01, "Happens-before": it is held as 256 rows of four 64-bit words, each row the set of the events before one.
+use mathlib.Core.Path.{_≡_}
+use mathlib.Core.Bool.{Bool, _&&_}
+use mathlib.Core.List.{List, [], _∷_}
+use Prim.Native.Nat.{ℕ, _/_, _%_, _^_}
+use lib.Dec.{eqb, ltb}
+use lib.ListN.{getD}
+use Rattle.happens_before.specs.Types.{Event}
+use Rattle.happens_before.specs.Causality.{before}
+
+-- bit k of the word x is 1
+unfoldable pub wordBit : ℕ → ℕ → Bool
+wordBit x k = eqb (x / 2 ^ k % 2) 1
+
+-- j is in the set: bit j % 64 of word j / 64
+unfoldable pub member : List ℕ → ℕ → Bool
+member row j = wordBit (getD row (j / 64) 0) (j % 64)
+
+-- the empty set
+abbrev pub noMembers : List ℕ
+noMembers = 0 ∷ 0 ∷ 0 ∷ 0 ∷ []
+
+-- event i is in the row of event j
+unfoldable pub bit : List (List ℕ) → ℕ → ℕ → Bool
+bit rows i j = member (getD rows j []) i
+
+-- the rows of the events below n are filled, and the others are empty
+abbrev pub Filled : List Event → ℕ → List (List ℕ) → Type 0
+Filled es n rows = (i j : ℕ) → bit rows i j ≡ (ltb j n && before es i j)
+
+-- the rows hold happens-before
+abbrev pub HappensBefore : List Event → List (List ℕ) → Type 0
+HappensBefore es rows = (i j : ℕ) → bit rows i j ≡ before es i j

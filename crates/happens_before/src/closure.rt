@@ -1,0 +1,39 @@
+// The rows of happens-before: row j is the set of the events before event j.
+use crate::sets::contains;
+use crate::sets::join_if;
+use trace_events::Trace;
+ghost use mathlib.Core.Path.{_≡_};
+ghost use Prim.Native.Nat.{_≤_};
+ghost use Rattle.trace_events.specs.Events.{eventsOf};
+ghost use Rattle.happens_before.specs.Rows.{bit, HappensBefore};
+
+// For each event the set of those before it: the union of its direct predecessors and their rows, which are filled already. Past the
+// last event the rows stay empty. Both loops stand here, since an inner call would copy the events at each turn.
+pub fn happens_before(t: Trace) -> [[u64; 4]; 256]
+    requires { ⌜ t .len ≤ 256 ⌝ }
+    ensures { λ r. ⌜ HappensBefore (eventsOf t) r ⌝ }
+{
+    let n = t.len;
+    let mut rows = [[0u64; 4]; 256];
+    for j in 0..n {
+        let second = t.events[j];
+        let mut set = [0u64; 4];
+        for k in 0..j {
+            let first = t.events[k];
+            let row = rows[k];
+            let precedes = first.precedes(second);
+            let next = join_if(set, row, k as u8, precedes);
+            set = next;
+        }
+        rows[j] = set;
+    }
+    rows
+}
+
+// Event i is in the row of event j: it happens before it.
+pub fn is_before(rows: &[[u64; 4]; 256], i: u8, j: u8) -> bool
+    ensures { λ r. ⌜ r ≡ bit (now (rows .entry)) i j ⌝ }
+{
+    let row = rows[j as usize];
+    contains(row, i)
+}

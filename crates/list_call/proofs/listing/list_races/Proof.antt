@@ -1,0 +1,21 @@
+use Rattle.list_call.proofs.ListLaws.{call-refused, call-accepted}
+use borrow.Author.Needs.{needs}
+use Rattle.list_call.proofs.listing.list_races.Statement.{statement}
+use Rattle.list_call.proofs.listing.list_races.Tie as tie
+
+enum-told : tie.Need-enum-told
+enum-told c = search needs
+
+returns : tie.Need-returns
+returns c = call-refused _ (c .before .before .before .read-trace .result) (c .before .before .before .read-trace .ensures .0) _ _ (c .before .outcome .given .1)
+
+returns-2 : tie.Need-returns-2
+returns-2 c = call-accepted _ (c .before .before .before .before .before .before .before .read-trace .result) (c .before .before .before .before .before .before .before .read-trace .ensures .0) _ _ _ (c .before .before .before .before .before .enum-told .given .1) (c .before .before .list .ensures .0) (c .before .before .list .ensures .1)
+
+pub list-races-spec : {M : Type 1} → statement M
+list-races-spec =
+    tie.close
+    (tie.spec (λ c κs. search needs) (λ c. search needs)
+    enum-told (λ c κs. search needs)
+    returns (λ c. search needs)
+    returns-2)

@@ -1,0 +1,154 @@
+-- The outer invariant: the counts and the list have the pairs whose lower event is below i. The inner: and those of i and the events below j.
+use Prim.Native.Nat.{ℕ, _+_, _-_, _*_, _<_, _≤_}
+use native.Mathlib.Omega.{arith}
+use mathlib.Core.Path.{_≡_, refl, sym, ap, ap₂, _∙_}
+use mathlib.Core.List.{List}
+use lib.ListN.{length}
+use lib.Seq.{sets, length-sets}
+use borrow.Author.Needs.{needs}
+use Rattle.trace_events.specs.Events.{eventsOf}
+use Rattle.trace_events.proofs.TraceLaws.{length-events, event-at}
+use Rattle.basics.proofs.Arrays.{length-mapped}
+use Rattle.list_pairs.specs.Types.{Event}
+use Rattle.list_pairs.specs.List.{test, Pair, pairBytes, ofKind}
+use Rattle.list_verdicts.specs.Kinds.{listed, Kind}
+use Rattle.list_verdicts.specs.Verdicts.{verdictOf}
+use Rattle.list_pairs.specs.Counting.{countOf, rowOf}
+use Rattle.list_pairs.proofs.PairLaws.{row-start, row-most, small-of, count-turn, bytes-turn, rowsBelow, below-most, below-count, below-bytes, all-rows, counted}
+use Rattle.list_pairs.proofs.pass.scan.Statement.{statement}
+use Rattle.list_pairs.proofs.pass.scan.Tie as tie
+
+abbrev Inv-loop2 : tie.InvT-loop2
+Inv-loop2 rows list₀ t n sum₀ i a j₀ list sum j =
+    (i < j)
+    × (j ≤ t .len)
+    × ((k : Kind) → countOf k sum ≡ countOf k sum₀ + length (rowOf k (eventsOf t) i j))
+    × (list ≡ sets list₀ (2 * sum₀ .listed) (pairBytes (rowOf listed (eventsOf t) i j)))
+
+abbrev μ-loop2 : tie.MeasureT-loop2
+μ-loop2 rows list₀ t n sum₀ i a j₀ list sum j = t .len - j
+
+abbrev Inv-loop : tie.InvT-loop
+Inv-loop rows list₀ t n sum₀ i₀ list sum i =
+    (i ≤ t .len)
+    × (length (t .events) ≡ 256)
+    × ((k : Kind) → countOf k sum ≡ length (rowsBelow k (eventsOf t) (t .len) i))
+    × (list ≡ sets list₀ 0 (pairBytes (rowsBelow listed (eventsOf t) (t .len) i)))
+
+abbrev μ-loop : tie.MeasureT-loop
+μ-loop rows list₀ t n sum₀ i₀ list sum i = t .len - i
+
+loop-holds : tie.Need-loop-holds Inv-loop2 μ-loop2 Inv-loop μ-loop
+loop-holds c = (omega arith, search (needs, length-mapped), c .none .ensures, refl)
+
+loop2-holds : tie.Need-loop2-holds Inv-loop2 μ-loop2 Inv-loop μ-loop
+loop2-holds c =
+    let es = eventsOf (c .before .before .before .before .before .args .t1) in
+    let i = c .before .before .loop .i in (
+      omega arith,
+      omega arith,
+      λ k. rw (row-start (test k es) i) (omega arith),
+      rw (row-start (test listed es) i) refl,
+    )
+
+-- no count is more than there are pairs so far
+most : (q : tie.At-loop2 Inv-loop2 μ-loop2 Inv-loop μ-loop) (k : Kind) → countOf k (q .loop2 .sum) ≤ q .before .before .before .loop .i * 256 + q .loop2 .j
+most q k =
+    let l = q .before .before .before .loop in
+    let s = q .before .before .before .before .before .before in
+    let es = eventsOf (s .args .t1) in
+    omega (arith, q .loop2 .inv .2 k, l .inv .2 k, below-most k es (s .args .t1 .len) (l .i) (s .pre .0 .0), row-most (test k es) (l .i) (q .loop2 .j))
+
+mul-put-listed : tie.Need-mul-put-listed Inv-loop2 μ-loop2 Inv-loop μ-loop
+mul-put-listed c = omega (arith, most (c .before .before .before .before .before .before) listed)
+
+put-listed-requires : tie.Need-put-listed-requires Inv-loop2 μ-loop2 Inv-loop μ-loop
+put-listed-requires c κs =
+    let q = c .before .before .before .before .before .before in
+    let l = q .before .before .before .loop in
+    let s = q .before .before .before .before .before .before in
+    let es = eventsOf (s .args .t1) in
+    omega (
+      arith,
+      most q listed,
+      s .pre .0,
+      ap length (q .loop2 .inv .3),
+      length-sets (l .list) (2 * l .sum .listed) (pairBytes (rowOf listed es (l .i) (q .loop2 .j))),
+      ap length (l .inv .3),
+      length-sets (s .args .list .now) 0 (pairBytes (rowsBelow listed es (s .args .t1 .len) (l .i))),
+    )
+
+with-requires : tie.Need-with-requires Inv-loop2 μ-loop2 Inv-loop μ-loop
+with-requires c κs =
+    let q = c .before .before .before .before .before .before .before .before .before in
+    let s = q .before .before .before .before .before .before in
+    small-of (q .loop2 .sum) (λ k. omega (arith, most q k, s .pre .0))
+
+loop2-again : tie.Need-loop2-again Inv-loop2 μ-loop2 Inv-loop μ-loop
+loop2-again c =
+    let v = c .before .before .before .before .before .before in
+    let q = v .before .before .before .before in
+    let m = q .loop2 in
+    let l = q .before .before .before .loop in
+    let s = q .before .before .before .before .before .before in
+    let t = s .args .t1 in
+    let i = l .i in
+    let es = eventsOf t in
+    let before-is = v .before .is-before .ensures ∙ s .pre .1 i (m .j) in
+    let verdict =
+    v .verdict-of .ensures
+    ∙ ap₂ (λ (x y : Event). verdictOf (x .operation) (y .operation) (v .before .is-before .result)) (sym (event-at t i (omega (arith, s .pre .0)))) (sym (event-at t (m .j) (omega arith))) in (
+      omega arith,
+      omega arith,
+      λ k. count-turn es i (m .j) (m .inv .0) before-is verdict k _ _ _ (c .with .ensures k) (m .inv .2 k),
+      bytes-turn es i (m .j) (m .inv .0) before-is verdict _ _ _ (l .sum .listed) (m .sum .listed) (m .inv .2 listed) (m .inv .3) (c .before .before .before .put-listed .ensures),
+    )
+
+loop-again : tie.Need-loop-again Inv-loop2 μ-loop2 Inv-loop μ-loop
+loop-again c =
+    let m = c .before .loop2 in
+    let l = c .before .before .before .before .loop in
+    let t = c .before .before .before .before .before .before .before .args .t1 in
+    let es = eventsOf t in
+    let e : m .j ≡ t .len = omega arith in (
+      omega arith,
+      l .inv .1,
+      λ k. below-count k es (t .len) (l .i) _ _ (m .inv .2 k ∙ ap (λ (n : ℕ). countOf k (l .sum) + length (rowOf k es (l .i) n)) e) (l .inv .2 k),
+      below-bytes es (t .len) (l .i) _ _ _ (l .sum .listed) (l .inv .2 listed) (l .inv .3)
+          (m .inv .3 ∙ ap (λ (n : ℕ). sets (l .list) (2 * l .sum .listed) (pairBytes (rowOf listed es (l .i) n))) e),
+    )
+
+same-length : tie.Need-same-length Inv-loop2 μ-loop2 Inv-loop μ-loop
+same-length c = ap length (c .before .loop .inv .3) ∙ simp length-sets
+
+returns : tie.Need-returns Inv-loop2 μ-loop2 Inv-loop μ-loop
+returns c =
+    let l = c .before .loop in
+    let s = c .before .before .before .before in
+    let t = s .args .t1 in
+    let size : length (eventsOf t) ≡ t .len = length-events t (omega (arith, s .pre .0)) in
+    let e : l .i ≡ t .len = omega arith in (
+      counted (eventsOf t) (l .sum)
+          (λ k. l .inv .2 k ∙ ap (λ (m : ℕ). length (rowsBelow k (eventsOf t) (t .len) m)) e ∙ ap length (all-rows k (eventsOf t) (t .len)) ∙ ap (λ (m : ℕ). length (ofKind k (eventsOf t) m)) (sym size)),
+      l .inv .3
+          ∙ ap (λ (m : ℕ). sets (s .args .list .now) 0 (pairBytes (rowsBelow listed (eventsOf t) (t .len) m))) e
+          ∙ ap (λ (ps : List Pair). sets (s .args .list .now) 0 (pairBytes ps)) (all-rows listed (eventsOf t) (t .len) ∙ ap (ofKind listed (eventsOf t)) (sym size)),
+    )
+
+pub scan-spec : {M : Type 1} → statement M
+scan-spec =
+    tie.close
+    (tie.spec
+    Inv-loop2
+    μ-loop2
+    Inv-loop
+    μ-loop (λ c κs. search needs)
+    loop-holds (λ c. omega arith) (λ c. omega arith) (λ c. omega arith)
+    loop2-holds (λ c. omega arith) (λ c. omega arith) (λ c. omega arith) (λ c. omega arith) (λ c κs. search needs) (λ c κs. search needs)
+    mul-put-listed (λ c. omega arith) (λ c. omega arith)
+    put-listed-requires
+    with-requires (λ c. omega arith) (λ c. omega arith)
+    loop2-again (λ c. omega arith) (λ c. omega arith)
+    loop-again
+    same-length
+    returns)

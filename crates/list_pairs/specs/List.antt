@@ -1,0 +1,56 @@
+-- Document 01, "The list": the pairs of events and which of them are ordered, commuting or listed; the four counts, each of its own
+-- filter; the bytes of the list.
+use mathlib.Core.Bool.{Bool, true, false, not, _&&_}
+use mathlib.Core.List.{List, [], _∷_, _++_}
+use Prim.Native.Nat.{ℕ, zero, suc, _*_}
+use lib.Dec.{ltb}
+use lib.ListN.{length}
+use Rattle.basics.specs.Searches.{only, gather}
+use Rattle.flow_table.specs.FlowTable.{effectOf}
+use Rattle.commuting.specs.Commuting.{commutes}
+use Rattle.list_verdicts.specs.Kinds.{paired, Kind, listed, pairs, isKind, ordered, commuting}
+use Rattle.trace_events.specs.Events.{eventAt}
+use Rattle.happens_before.specs.Causality.{before}
+use Rattle.list_pairs.specs.Types.{Operation, Event, Counts}
+
+-- the events of lines i and j, i the lower, are of a kind; the higher never happens before the lower
+unfoldable pub test : Kind → List Event → ℕ → ℕ → Bool
+test k es i j = isKind k (eventAt es i .operation) (eventAt es j .operation) (before es i j)
+
+-- two events, the lower first
+pub record Pair : Type 0 where
+  pub lower : ℕ
+  pub higher : ℕ
+
+-- the pair of i and j, where i is the lower and p holds
+abbrev pub cell : (ℕ → ℕ → Bool) → ℕ → ℕ → List Pair
+cell p i j = only (ltb i j && p i j) (record { lower = i; higher = j })
+
+-- all pairs of numbers below n of which p holds, in rising order
+unfoldable pub pairsWhere : (ℕ → ℕ → Bool) → ℕ → List Pair
+pairsWhere p n = gather (λ i. gather (cell p i) n) n
+
+-- the pairs of a kind among the first n events
+abbrev pub ofKind : Kind → List Event → ℕ → List Pair
+ofKind k es n = pairsWhere (test k es) n
+
+-- the list of a trace
+abbrev pub listOf : List Event → List Pair
+listOf es = ofKind listed es (length es)
+
+-- a pair is two bytes: lower event, higher event
+abbrev pub pairBytes : List Pair → List ℕ
+pairBytes [] = []
+pairBytes (p ∷ ps) = p .lower ∷ p .higher ∷ pairBytes ps
+
+-- the bytes that the list takes
+unfoldable pub needed : List Event → ℕ
+needed es = 2 * length (listOf es)
+
+-- the number of pairs of a kind
+abbrev pub count : Kind → List Event → ℕ
+count k es = length (ofKind k es (length es))
+
+-- the four counts
+unfoldable pub countsOf : List Event → Counts
+countsOf es = record { pairs = count pairs es; ordered = count ordered es; commuting = count commuting es; listed = count listed es }

@@ -1,0 +1,57 @@
+// One pass over the pairs of a trace: one verdict a pair.
+use crate::counts::Counts;
+use list_verdicts::Verdict;
+use list_verdicts::verdict_of;
+use trace_events::Trace;
+ghost use mathlib.Core.Path.{_≡_};
+ghost use Prim.Native.Nat.{_+_, _≤_};
+ghost use lib.ListN.{length};
+ghost use lib.Seq.{sets};
+ghost use Rattle.trace_events.specs.Events.{eventsOf};
+ghost use Rattle.happens_before.specs.Rows.{HappensBefore};
+ghost use Rattle.list_pairs.specs.List.{pairBytes, listOf, countsOf};
+ghost use Rattle.list_verdicts.specs.Kinds.{listed};
+ghost use Rattle.basics.specs.Searches.{only};
+ghost use Rattle.list_pairs.specs.Counting.{counts};
+
+// The pair i, j at a place of the list, if its verdict is that it is listed.
+fn put_listed(list: &mut [u8], at: usize, i: u8, j: u8, v: Verdict)
+    requires { ⌜ at + 2 ≤ length (now list) ⌝ }
+    ensures { λ r. ⌜ now (list .exit) ≡ sets (now (list .entry)) at (pairBytes (only (counts listed v) (record { lower = i; higher = j }))) ⌝ }
+{
+    match v {
+        Verdict::Unpaired => {}
+        Verdict::Ordered => {}
+        Verdict::Commuting => {}
+        Verdict::Listed => {
+            list[at] = i;
+            list[at + 1] = j;
+        }
+    }
+}
+
+// All pairs: the four counts, and the listed pairs from the list's start. Both loops stand here, since an inner call would copy the
+// events at each turn.
+pub fn scan(t: Trace, rows: &[[u64; 4]; 256], list: &mut [u8]) -> Counts
+    requires { ⌜ (t .len ≤ 256) × (131072 ≤ length (now list)) ⌝ }
+    requires { ⌜ HappensBefore (eventsOf t) (now rows) ⌝ }
+    ensures { λ r. ⌜ r ≡ countsOf (eventsOf t) ⌝ }
+    ensures { λ r. ⌜ now (list .exit) ≡ sets (now (list .entry)) 0 (pairBytes (listOf (eventsOf t))) ⌝ }
+{
+    let n = t.len;
+    let mut sum = Counts::none();
+    for i in 0..n {
+        let first = t.events[i];
+        let a = first.operation;
+        for j in i + 1..n {
+            let second = t.events[j];
+            let b = second.operation;
+            let ordered = happens_before::is_before(rows, i as u8, j as u8);
+            let v = verdict_of(a, b, ordered);
+            put_listed(list, 2 * sum.listed, i as u8, j as u8, v);
+            let next = sum.with(v);
+            sum = next;
+        }
+    }
+    sum
+}

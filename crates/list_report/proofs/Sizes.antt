@@ -1,0 +1,90 @@
+-- How much what is printed can take: 425,000 bytes. Assumes nothing.
+use Prim.Native.Nat.{ℕ, _*_, _/_, _<_, _≤_}
+use native.Mathlib.Decide.{decLt}
+use native.Mathlib.Omega.{arith}
+use mathlib.Core.Path.{_≡_, refl, ap}
+use mathlib.Core.List.{List, [], _∷_, List·Memᴰ, List·Memᴰ·head, List·Memᴰ·tail}
+use mathlib.Core.Logic.{_⊎_, inl, inr}
+use lib.ListN.{length, length-append}
+use Rattle.text_numbers.specs.Print.{printNumber}
+use Rattle.text_numbers.proofs.Print.{print-small, print-big, print-length}
+use Rattle.list_pairs.specs.List.{test, Pair, listOf, pairBytes, countsOf}
+use Rattle.list_verdicts.specs.Kinds.{listed, Kind}
+use Rattle.list_pairs.specs.Counting.{countOf, Small}
+use Rattle.list_pairs.proofs.PairLaws.{small-of}
+use Rattle.list_pairs.proofs.Members.{pairs-in}
+use Rattle.trace_text.specs.TraceText.{readTrace}
+use Rattle.trace_text.proofs.Accepted.{accepted-iff}
+use Rattle.list_call.proofs.Sizes.{count-most}
+use Rattle.refusals_text.proofs.Laws.{item-length, refusal-length, refused-length}
+use Rattle.list_report.specs.Types.{Event, Counts, Refusal}
+use Rattle.list_report.specs.Report.{raceLine, raceLines, countsLine, listText, textOf, reportText}
+use Rattle.list_report.proofs.Refused.{refused-text}
+
+pub counts-small : (es : List Event) → length es ≤ 256 → (c : Counts) → c ≡ countsOf es → Small c
+unfolding countsOf
+counts-small es l c e = rw e (small-of (countsOf es) (λ k. small k))
+  where
+    small : (k : Kind) → countOf k (countsOf es) ≤ 65535
+    small Kind.pairs = omega (arith, count-most Kind.pairs es l)
+    small Kind.ordered = omega (arith, count-most Kind.ordered es l)
+    small Kind.commuting = omega (arith, count-most Kind.commuting es l)
+    small Kind.listed = omega (arith, count-most Kind.listed es l)
+
+one-digit : (n : ℕ) → n < 10 → length (printNumber n) ≡ 1
+one-digit n l = ap length (print-small n l)
+
+two-digits : (n : ℕ) → n < 100 → length (printNumber n) ≤ 2
+two-digits n l =
+    elim (decLt n 10) [
+      | yes s ↦ omega (arith, one-digit n s)
+      | no s ↦ rw (print-big n (omega arith) (omega arith), length-append) (omega (arith, one-digit (n / 10) (omega arith)))
+    ]
+
+three-digits : (n : ℕ) → n < 1000 → length (printNumber n) ≤ 3
+three-digits n l =
+    elim (decLt n 10) [
+      | yes s ↦ omega (arith, one-digit n s)
+      | no s ↦ rw (print-big n (omega arith) (omega arith), length-append) (omega (arith, two-digits (n / 10) (omega arith)))
+    ]
+
+race-length : (i j : ℕ) → i < 256 → j < 256 → length (raceLine i j) ≤ 13
+unfolding raceLine
+race-length i j a b = simp (length-append, item-length) (omega (arith, three-digits i (omega arith), three-digits j (omega arith)))
+
+races-length : (ps : List Pair) → ((i j : ℕ) → List·Memᴰ (record { lower = i; higher = j }) ps → (i < j) × (j < 256)) → length (raceLines (pairBytes ps)) ≤ 13 * length ps
+races-length [] h = omega arith
+races-length (p ∷ ps) h =
+    let r = h (p .lower) (p .higher) (List·Memᴰ·head refl) in
+    let a = r .0 in
+    let b = r .1 in
+    omega (
+      arith,
+      length-append (raceLine (p .lower) (p .higher)) (raceLines (pairBytes ps)),
+      race-length (p .lower) (p .higher) (omega arith) b,
+      races-length ps (λ i j m. h i j (List·Memᴰ·tail m)),
+    )
+
+counts-length : (c : Counts) → length (countsLine c) ≤ 75
+unfolding countsLine
+counts-length c = simp (length-append, item-length) (omega (arith, print-length (c .pairs), print-length (c .ordered), print-length (c .commuting), print-length (c .listed)))
+
+list-length : (es : List Event) → length es ≤ 256 → length (listText es) ≤ 425000
+unfolding listText
+list-length es l =
+    omega (
+      arith,
+      length-append (raceLines (pairBytes (listOf es))) (countsLine (countsOf es)),
+      races-length (listOf es) (λ i j m. let q = pairs-in (test listed es) (length es) i j .0 m in (q .0, omega (arith, q .1))),
+      count-most listed es l,
+      counts-length (countsOf es),
+    )
+
+-- what is printed fits 425,000 bytes
+pub report-length : (s : List ℕ) → length (reportText s) ≤ 425000
+unfolding reportText
+report-length s = go (readTrace s) refl
+  where
+    go : (x : Refusal ⊎ List Event) → readTrace s ≡ x → length (textOf s x) ≤ 425000
+    go (inl r) h = omega (arith, refused-length s [] r, refusal-length r, refused-text s r h)
+    go (inr es) h = list-length es (accepted-iff s es .0 h .few)

@@ -1,0 +1,19 @@
+use native.Mathlib.Omega.{arith}
+use Rattle.text_numbers.proofs.Writing.{put-then, put-one}
+use Rattle.list_report.specs.Report.{raceLine}
+use borrow.Author.Needs.{needs}
+use Rattle.list_report.proofs.printing.put_race.Statement.{statement}
+use Rattle.list_report.proofs.printing.put_race.Tie as tie
+
+returns : tie.Need-returns
+unfolding raceLine
+returns c = (
+  put-then (put-then (c .before .before .before .before .before .before .before .before .before .before .before .put-item .ensures .0) (c .before .before .before .before .before .before .put-item2 .ensures .0)) (put-one _ 10 _ _ (c .before .before .put-byte .ensures)),
+  omega (arith, c .before .before .before .before .before .before .before .before .before .before .before .put-item .ensures .1, c .before .before .before .before .before .before .put-item2 .ensures .1),
+)
+
+pub put-race-spec : {M : Type 1} → statement M
+put-race-spec =
+    tie.close
+    (tie.spec (λ c. search needs) (λ c κs. search needs) (λ c. search needs) (λ c κs. search needs) (λ c κs. search needs) (λ c. search needs) (λ c. search needs)
+    returns)

@@ -1,0 +1,53 @@
+// Prints the report on each trace text of its data files. What must come out is in the file `stdout`.
+use libc::STDOUT_FILENO;
+
+// The files 000 and on: the worked lines and no events; each refusal; barriers, messages and chains through tokens; pairs that commute or
+// do not; 256 events; traces drawn at random; from 047 on barriers and chains again, every two operations, many switches and events.
+const CASES: u8 = 69;
+
+fn print_report(trace: &[u8]) {
+    let mut out = list_report::room();
+    let n = list_report::report(trace, &mut out);
+    io::write_all(STDOUT_FILENO, text_lines::front(&out, n));
+}
+
+fn read_file(path: &[u8]) {
+    let mut buf = io::large_buffer();
+    let input = program_input::read_file(path, &mut buf);
+    if input.ok {
+        let n = input.len;
+        print_report(&buf[..n]);
+    }
+}
+
+fn run(path: &[u8]) {
+    io::write_all(STDOUT_FILENO, b"trace ");
+    io::write_all(STDOUT_FILENO, path);
+    io::write_all(STDOUT_FILENO, b"\n");
+    read_file(path);
+}
+
+// The file that a number names by its three digits.
+fn numbered(i: u8) {
+    let name = [b'0' + i / 100 % 10, b'0' + i / 10 % 10, b'0' + i % 10];
+    run(&name);
+}
+
+// The rehearsals of examples/, each with its repaired trace.
+fn rehearsals() {
+    run(b"packet_early");
+    run(b"packet_early_repaired");
+    run(b"one_key");
+    run(b"one_key_repaired");
+    run(b"overlap");
+    run(b"overlap_repaired");
+    run(b"aisle");
+    run(b"aisle_repaired");
+}
+
+fn main() {
+    rehearsals();
+    for i in 0..CASES {
+        numbered(i);
+    }
+}

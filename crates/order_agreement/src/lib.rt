@@ -1,0 +1,1 @@
+// An order that keeps happens-before and the listed pairs agrees with the recorded order: theorems only.

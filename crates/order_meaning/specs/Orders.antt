@@ -1,0 +1,36 @@
+-- Document 01, "What an order of events does", for any kind of state, step and reply. Events are numbers, and an order is the list
+-- of them, as the bytes that a caller lends.
+use mathlib.Core.Path.{_≡_}
+use mathlib.Core.Bool.{Bool, true, false, _&&_, _||_, cond}
+use mathlib.Core.Option.{Option, none, some}
+use mathlib.Core.List.{List, [], _∷_}
+use Prim.Native.Nat.{ℕ, zero, suc, _<_}
+use lib.Dec.{eqb}
+use lib.ListN.{length}
+use Rattle.basics.specs.Searches.{has}
+
+module _ {S : Type 0} (step : ℕ → S → S) where
+  -- the state after the events of an order, taken from the front: each meets what the one before it left
+  abbrev pub run : List ℕ → S → S
+  run [] s = s
+  run (i ∷ o) s = run o (step i s)
+
+  -- the reply of event i in an order, kept under its number
+  abbrev pub replyIn : {A : Type 0} → (ℕ → S → A) → List ℕ → S → ℕ → Option A
+  replyIn reply [] s i = none
+  replyIn reply (j ∷ o) s i = cond (eqb i j) (some (reply j s)) (replyIn reply o (step j s) i)
+
+-- the recorded order of the n events from b on
+abbrev pub from : ℕ → ℕ → List ℕ
+from b zero = []
+from b (suc n) = b ∷ from (suc b) n
+
+-- event i stands before event j
+abbrev pub stands : ℕ → ℕ → List ℕ → Bool
+stands i j [] = false
+stands i j (x ∷ o) = (eqb i x && has j o) || stands i j o
+
+-- an order of the events 0 .. n-1: its length is n, and none is missing
+pub record IsOrderOf (n : ℕ) (o : List ℕ) : Type 0 where
+  pub size : length o ≡ n
+  pub full : (i : ℕ) → i < n → has i o ≡ true

@@ -1,0 +1,21 @@
+use Rattle.refusals_text.proofs.Laws.{refusal-put}
+use Rattle.text_numbers.proofs.Writing.{put-then, put-one}
+use native.Mathlib.Omega.{arith}
+use borrow.Author.Needs.{needs}
+use Rattle.refusals_text.proofs.put_refusal.Statement.{statement}
+use Rattle.refusals_text.proofs.put_refusal.Tie as tie
+
+returns : tie.Need-returns
+returns c =
+    let m = c .before .before .before .before .before .before in
+    let n = m .before .before .before .before .before in
+    let s = n .before .before .before .before in (
+      refusal-put _ _ _ (s .before .returned .ensures) (s .shown .ensures) (put-then (put-then (n .put-item .ensures .0) (m .put-item2 .ensures .0)) (put-one _ 10 _ _ (c .before .before .put-byte .ensures))),
+      omega (arith, n .put-item .ensures .1, m .put-item2 .ensures .1),
+    )
+
+pub put-refusal-spec : {M : Type 1} → statement M
+put-refusal-spec =
+    tie.close
+    (tie.spec (λ c κs. search needs) (λ c κs. search needs) (λ c. search needs) (λ c. search needs) (λ c κs. search needs) (λ c. search needs) (λ c κs. search needs) (λ c κs. search needs) (λ c. search needs) (λ c. search needs)
+    returns)

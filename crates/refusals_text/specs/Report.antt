@@ -1,0 +1,34 @@
+-- Document 01, "Program and worked lines": what the programs print of a refusal.
+use mathlib.Core.Bool.{cond}
+use mathlib.Core.List.{List, [], _∷_, _++_}
+use Prim.Native.Nat.{ℕ}
+use lib.Dec.{ltb}
+use Rattle.basics.specs.Text.{bytes}
+use Rattle.text_numbers.specs.Print.{printNumber}
+use Rattle.refusals.specs.Refusals.{numberOf, placeOf, sourceOf, lineOf}
+use Rattle.refusals_text.specs.Types.{Refusal, Source}
+
+-- a key and its number
+unfoldable pub item : List ℕ → ℕ → List ℕ
+item key n = key ++ printNumber n
+
+-- a place as it is printed: as it is, since no text, order or buffer need is near the largest number that is printed
+unfoldable pub shown : ℕ → ℕ
+shown p = cond (ltb p 4294967296) p 4294967295
+
+-- `refused=4 place=2`
+unfoldable pub refusalLine : Refusal → List ℕ
+refusalLine r =
+    item (bytes "refused=") (numberOf r)
+    ++ item (bytes " place=") (shown (placeOf r))
+    ++ bytes "\n"
+
+-- the refused line, where there is one
+abbrev pub lineText : Source → List ℕ → List ℕ
+lineText Source.Neither line = []
+lineText Source.Trace line = line ++ bytes "\n"
+lineText Source.Tables line = line ++ bytes "\n"
+
+-- number and place; then, where the place is a line, the refused line of the trace or of the tables
+unfoldable pub refusedText : List ℕ → List ℕ → Refusal → List ℕ
+refusedText trace tables r = refusalLine r ++ lineText (sourceOf r) (lineOf trace tables r)

@@ -1,0 +1,34 @@
+use native.Mathlib.Omega.{arith}
+use denote.Ref.{now}
+use mathlib.Core.Path.{_≡_}
+use lib.ListN.{length}
+use Rattle.trace_events.specs.Events.{eventsOf}
+use Rattle.trace_events.proofs.TraceLaws.{length-events}
+use Rattle.basics.proofs.Arrays.{length-mapped}
+use Rattle.replay_call.proofs.Leaving.{not-over, ran-through}
+use borrow.Author.Needs.{needs}
+use Rattle.replay_call.proofs.replaying.run_order.Statement.{statement}
+use Rattle.replay_call.proofs.replaying.run_order.Tie as tie
+
+size : (s : tie.Start) → length (eventsOf (s .args .t)) ≡ s .args .t .len
+size s = let n : length (s .args .t .events) ≡ 256 = search (needs, length-mapped, s .good .0) in length-events (s .args .t) (omega (arith, s .pre .0))
+
+returns : tie.Need-returns
+returns c =
+    let d = c .before .before .before .before in
+    let s = d .before .before .before .before in
+    absurd (not-over (eventsOf (s .args .t)) (now (s .args .order)) (s .args .start) (d .run .result) (d .run .ensures) (s .pre .1) (s .pre .2) (c .if1 .taken))
+
+returns-2 : tie.Need-returns-2
+returns-2 c =
+    let w = c .before .before .before .before in
+    let d = w .before .before .before .before .before .before .before in
+    let s = d .before .before .before .before in
+    ran-through (eventsOf (s .args .t)) (now (s .args .order)) (s .args .start) (d .run .result) (d .run .ensures) (s .pre .1) (s .pre .2) (s .args .t .len) _ _ (size s) (w .write-both .ensures)
+
+pub run-order-spec : {M : Type 1} → statement M
+run-order-spec =
+    tie.close
+    (tie.spec (λ c κs. search needs)
+    returns (λ c κs. search needs) (λ c. search needs) (λ c. search needs)
+    returns-2)

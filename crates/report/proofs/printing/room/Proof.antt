@@ -1,7 +1,0 @@
-use Prim.Native.Nat.{ℕ}
-use lib.ListN.{length-replicate}
-use Rattle.report.proofs.printing.room.Statement.{statement}
-use Rattle.report.proofs.printing.room.Tie as tie
-
-pub room-spec : {M : Type 1} → statement M
-room-spec = tie.close (tie.spec (λ c. length-replicate {A = ℕ} 425000 0))

@@ -1,6 +1,0 @@
--- The types that this crate's definitions speak of, under one name each.
-pub use Rattle.refusals.specs.declared.refusal.Refusal.{Refusal}
-pub use Rattle.refusals.specs.declared.refusal.Source.{Source}
-pub use Rattle.events.specs.declared.event.Event.{Event}
-pub use Rattle.pairs.specs.declared.counts.Counts.{Counts}
-pub use Rattle.races.specs.declared.answer.ListAnswer.{ListAnswer}

@@ -1,0 +1,25 @@
+use native.Mathlib.Omega.{arith}
+use borrow.Author.Needs.{needs}
+use Rattle.text_numbers.proofs.Writing.{put-then, print-length}
+use Rattle.text_put_fields.proofs.Lengths.{entry-length}
+use Rattle.tables_text.specs.TableText.{printRow}
+use Rattle.tables_text.proofs.write.put_row.Statement.{statement}
+use Rattle.tables_text.proofs.write.put_row.Tie as tie
+
+put-entry-requires : tie.Need-put-entry-requires
+put-entry-requires c κs = omega (arith, c .before .before .before .put-number .ensures .after, c .before .before .before .before .before .before .before .before .put-bytes .ensures .after, print-length (c .before .before .before .before .before .before .before .before .before .before .before .before .before .args .row .switch))
+
+put-bytes-requires-2 : tie.Need-put-bytes-requires-2
+put-bytes-requires-2 c κs =
+    let row = c .before .before .before .before .before .before .before .before .before .before .before .before .before .before .before .before .before .before .args .row in
+    omega (arith, c .before .before .before .before .put-entry .ensures .after, c .before .before .before .before .before .before .before .before .put-number .ensures .after, c .before .before .before .before .before .before .before .before .before .before .before .before .before .put-bytes .ensures .after, print-length (row .switch), entry-length (row .entry))
+
+returns : tie.Need-returns
+unfolding printRow
+returns c = put-then (put-then (put-then (c .before .before .before .before .before .before .before .before .before .before .before .before .before .before .before .before .put-bytes .ensures) (c .before .before .before .before .before .before .before .before .before .before .before .put-number .ensures)) (c .before .before .before .before .before .before .before .put-entry .ensures)) (c .before .before .put-bytes2 .ensures)
+
+pub put-row-spec : {M : Type 1} → statement M
+put-row-spec = tie.close (tie.spec (λ c. search needs) (λ c κs. search needs) (λ c. search needs) (λ c κs. search needs)
+    put-entry-requires (λ c. search needs)
+    put-bytes-requires-2 (λ c. search needs)
+    returns)

@@ -1,0 +1,44 @@
+// A line of a table text as a row.
+use refusals::Refusal;
+use rows::Row;
+use text_fields::EntryRead;
+use text_fields::entry_at;
+use text_numbers::Number;
+use text_numbers::number_at;
+ghost use mathlib.Core.Path.{_≡_};
+ghost use Rattle.tables_text.specs.TableText.{readLine, asRow};
+
+// A line's row, or why the line is refused.
+pub enum RowRead {
+    Read(Row),
+    Refused(Refusal),
+}
+
+// The row of a whole line, which has that number.
+pub fn row_line(s: &[u8], line: usize) -> RowRead
+    ensures { λ r. ⌜ asRow r ≡ readLine line (now (s .entry)) ⌝ }
+{
+    let Number::Read {
+        value: switch,
+        next: n,
+    } = number_at(s, 0, b"sw=", 15)
+    else {
+        return RowRead::Refused(Refusal::TablesMalformed(line));
+    };
+    let EntryRead::Read { value: entry, next } = entry_at(s, n) else {
+        return RowRead::Refused(Refusal::TablesMalformed(line));
+    };
+    if next != s.len() {
+        return RowRead::Refused(Refusal::TablesMalformed(line));
+    }
+    let key = entry.key;
+    let pattern = key.pattern;
+    if !pattern.is_clear() {
+        return RowRead::Refused(Refusal::TablesAddressBit(line));
+    }
+    let row = Row {
+        switch: switch as u8,
+        entry,
+    };
+    RowRead::Read(row)
+}

@@ -1,0 +1,78 @@
+-- Document 01, "Trace text" and "Tables and replay": reading the parts of a line. That each reader reads the texts of
+-- Print.antt and no others is proved in proofs/.
+use Prim.Native.Nat.{ℕ}
+use mathlib.Core.Option.{Option, none, some}
+use Rattle.basics.specs.Text.{bytes}
+use Rattle.text_numbers.specs.Reading.{Reader, mapped, keyed, wordOr, both}
+use Rattle.text_numbers.specs.Number.{readNumber, readHex}
+use Rattle.text_fields.specs.Types.{Exact, Prefix, Match, Packet, Action, Key, Entry, ExactRead, PrefixRead, MatchRead, PacketRead, ActionRead, KeyRead, EntryRead}
+
+-- `*`, or a number at most max
+unfoldable pub readExact : ℕ → Reader Exact
+readExact max = wordOr (bytes "*") Exact.Any (mapped Exact.Is (readNumber max))
+
+-- eight hexadecimal digits, `/`, a length at most 32
+unfoldable pub readPrefix : Reader Prefix
+readPrefix = mapped (λ (v, n). record { value = v; length = n }) (both readHex (keyed (bytes "/") (readNumber 32)))
+
+-- protocol and ports, by how a number at most so large is read
+unfoldable pub readLast : {N : Type 0} → (ℕ → Reader N) → Reader (N × (N × N))
+readLast number = both (keyed (bytes " proto=") (number 255)) (both (keyed (bytes " sport=") (number 65535)) (keyed (bytes " dport=") (number 65535)))
+
+-- the six fields, by how a number and an address is read
+unfoldable pub readSix : {N A : Type 0} → (ℕ → Reader N) → Reader A → Reader (N × (A × (A × (N × (N × N)))))
+readSix number address = both (keyed (bytes " port=") (number 65535)) (both (keyed (bytes " src=") address) (both (keyed (bytes " dst=") address) (readLast number)))
+
+abbrev pub matchOf : Exact × (Prefix × (Prefix × (Exact × (Exact × Exact)))) → Match
+matchOf (port, (src, (dst, (proto, (sport, dport))))) = record { port = port; src = src; dst = dst; proto = proto; sport = sport; dport = dport }
+
+unfoldable pub readMatch : Reader Match
+readMatch = mapped matchOf (readSix readExact readPrefix)
+
+abbrev pub packetOf : ℕ × (ℕ × (ℕ × (ℕ × (ℕ × ℕ)))) → Packet
+packetOf (port, (src, (dst, (proto, (sport, dport))))) = record { port = port; src = src; dst = dst; proto = proto; sport = sport; dport = dport }
+
+-- all exact
+unfoldable pub readPacket : Reader Packet
+readPacket = mapped packetOf (readSix readNumber readHex)
+
+-- `drop`, `ctl` or `pN`
+unfoldable pub readAction : Reader Action
+readAction = wordOr (bytes "drop") Action.Drop (wordOr (bytes "ctl") Action.Controller (mapped Action.Port (keyed (bytes "p") (readNumber 65535))))
+
+-- priority, then match
+unfoldable pub readKey : Reader Key
+readKey = mapped (λ (n, m). record { priority = n; pattern = m }) (both (keyed (bytes " prio=") (readNumber 65535)) readMatch)
+
+-- key, then action
+unfoldable pub readEntry : Reader Entry
+readEntry = mapped (λ (k, a). record { key = k; action = a }) (both readKey (keyed (bytes " act=") readAction))
+
+-- what each answer says: the value and the place after it, or nothing
+abbrev pub asExact : ExactRead → Option (Exact × ℕ)
+asExact (ExactRead.Read x n) = some (x, n)
+asExact ExactRead.Bad = none
+
+abbrev pub asPrefix : PrefixRead → Option (Prefix × ℕ)
+asPrefix (PrefixRead.Read p n) = some (p, n)
+asPrefix PrefixRead.Bad = none
+
+abbrev pub asMatch : MatchRead → Option (Match × ℕ)
+asMatch (MatchRead.Read m n) = some (m, n)
+asMatch MatchRead.Bad = none
+
+abbrev pub asPacket : PacketRead → Option (Packet × ℕ)
+asPacket (PacketRead.Read p n) = some (p, n)
+asPacket PacketRead.Bad = none
+
+abbrev pub asAction : ActionRead → Option (Action × ℕ)
+asAction (ActionRead.Read a n) = some (a, n)
+asAction ActionRead.Bad = none
+
+abbrev pub asKey : KeyRead → Option (Key × ℕ)
+asKey (KeyRead.Read k n) = some (k, n)
+asKey KeyRead.Bad = none
+
+abbrev pub asEntry : EntryRead → Option (Entry × ℕ)
+asEntry (EntryRead.Read e n) = some (e, n)
+asEntry EntryRead.Bad = none

@@ -1,0 +1,109 @@
+// The six fields of a match and of a packet, read from a place of a text.
+use crate::field::ExactRead;
+use crate::field::PrefixRead;
+use crate::field::exact_at;
+use crate::field::prefix_at;
+use flow::Exact;
+use flow::Match;
+use flow::Packet;
+use flow::Prefix;
+use text_numbers::Hex;
+use text_numbers::Number;
+use text_numbers::hex_at;
+use text_numbers::number_at;
+ghost use mathlib.Core.Path.{_≡_};
+ghost use Rattle.text_numbers.specs.Number.{readNumber};
+ghost use Rattle.text_numbers.specs.Reading.{mapped};
+ghost use Rattle.text_fields.specs.Read.{readExact, readLast, matchOf, packetOf, readMatch, readPacket, asMatch, asPacket};
+
+// A match that was read and the place after it, or no match.
+pub enum MatchRead {
+    Read { value: Match, next: usize },
+    Bad,
+}
+
+// A packet that was read and the place after it, or no packet.
+pub enum PacketRead {
+    Read { value: Packet, next: usize },
+    Bad,
+}
+
+// The six fields of a match.
+pub fn match_at(s: &[u8], at: usize) -> MatchRead
+    ensures { λ r. ⌜ asMatch r ≡ readMatch (now (s .entry)) at ⌝ }
+{
+    let ExactRead::Read { value: port, next } = exact_at(s, at, b" port=", 65535) else {
+        return MatchRead::Bad;
+    };
+    let PrefixRead::Read { value: src, next } = prefix_at(s, next, b" src=") else {
+        return MatchRead::Bad;
+    };
+    let PrefixRead::Read { value: dst, next } = prefix_at(s, next, b" dst=") else {
+        return MatchRead::Bad;
+    };
+    match_behind(s, next, port, src, dst)
+}
+
+// The last three fields of a match, behind the first three.
+fn match_behind(s: &[u8], at: usize, port: Exact, src: Prefix, dst: Prefix) -> MatchRead
+    ensures { λ r. ⌜ asMatch r ≡ mapped (λ p. matchOf (port, (src, (dst, p)))) (readLast readExact) (now (s .entry)) at ⌝ }
+{
+    let ExactRead::Read { value: proto, next } = exact_at(s, at, b" proto=", 255) else {
+        return MatchRead::Bad;
+    };
+    let ExactRead::Read { value: sport, next } = exact_at(s, next, b" sport=", 65535) else {
+        return MatchRead::Bad;
+    };
+    let ExactRead::Read { value: dport, next } = exact_at(s, next, b" dport=", 65535) else {
+        return MatchRead::Bad;
+    };
+    let value = Match {
+        port,
+        src,
+        dst,
+        proto,
+        sport,
+        dport,
+    };
+    MatchRead::Read { value, next }
+}
+
+// The six fields of a packet, all exact.
+pub fn packet_at(s: &[u8], at: usize) -> PacketRead
+    ensures { λ r. ⌜ asPacket r ≡ readPacket (now (s .entry)) at ⌝ }
+{
+    let Number::Read { value: port, next } = number_at(s, at, b" port=", 65535) else {
+        return PacketRead::Bad;
+    };
+    let Hex::Read { value: src, next } = hex_at(s, next, b" src=") else {
+        return PacketRead::Bad;
+    };
+    let Hex::Read { value: dst, next } = hex_at(s, next, b" dst=") else {
+        return PacketRead::Bad;
+    };
+    packet_behind(s, next, port, src, dst)
+}
+
+// The last three fields of a packet, behind the first three.
+fn packet_behind(s: &[u8], at: usize, port: u16, src: u32, dst: u32) -> PacketRead
+    ensures { λ r. ⌜ asPacket r ≡ mapped (λ p. packetOf (port, (src, (dst, p)))) (readLast readNumber) (now (s .entry)) at ⌝ }
+{
+    let Number::Read { value: proto, next } = number_at(s, at, b" proto=", 255) else {
+        return PacketRead::Bad;
+    };
+    let Number::Read { value: sport, next } = number_at(s, next, b" sport=", 65535) else {
+        return PacketRead::Bad;
+    };
+    let Number::Read { value: dport, next } = number_at(s, next, b" dport=", 65535) else {
+        return PacketRead::Bad;
+    };
+    let value = Packet {
+        port,
+        src,
+        dst,
+        proto,
+        sport,
+        dport,
+    };
+    PacketRead::Read { value, next }
+}

@@ -1,0 +1,50 @@
+use mathlib.Core.Bool.{true}
+use mathlib.Core.Path.{_≡_, sym, _∙_}
+use native.Mathlib.Omega.{arith}
+use borrow.Author.Needs.{needs}
+use denote.Ref.{now}
+use lib.ListN.{getD}
+use Rattle.text_numbers.specs.Number.{isDigit}
+use Rattle.text_numbers.proofs.Readers.{tested}
+use Rattle.text_numbers.proofs.Numbers.{digit-in, number-none, number-digits, number-zero, number-lead}
+use Rattle.text_numbers.proofs.read.read_number.Statement.{statement}
+use Rattle.text_numbers.proofs.read.read_number.Tie as tie
+
+-- the first byte is a digit
+digit : (c : tie.Then1) → isDigit (getD (now (c .before .before .before .before .args .s)) (c .before .before .before .before .args .at) 0) ≡ true
+digit c = tested isDigit (c .before .before .byte-at .ensures) (c .before .is-digit .ensures) (c .if1 .taken)
+
+add-next : tie.Need-add-next
+add-next c =
+    let a = c .before .before .before .before .before .args in
+    omega (arith, digit-in (now (a .s)) (a .at) (digit (c .before)))
+
+returns : tie.Need-returns
+returns c =
+    let f = c .before .before .before .before in
+    sym (number-lead _ _ _ (digit f) (sym (f .before .before .byte-at .ensures) ∙ c .before .before .before .if2 .taken)
+    (tested isDigit (c .before .before .byte-at2 .ensures) (c .before .is-digit2 .ensures) (c .if3 .taken)))
+
+returns-2 : tie.Need-returns-2
+returns-2 c =
+    let f = c .before .before .before .before in
+    sym (number-zero _ _ _ (digit f) (sym (f .before .before .byte-at .ensures) ∙ c .before .before .before .if2 .taken)
+    (tested isDigit (c .before .before .byte-at2 .ensures) (c .before .is-digit2 .ensures) (c .if3 .left)))
+
+returns-3 : tie.Need-returns-3
+returns-3 c =
+    let f = c .before .before in
+    c .read-digits .ensures ∙ sym (number-digits _ _ _ (digit f) (λ e. c .before .if2 .left (f .before .before .byte-at .ensures ∙ e)))
+
+returns-4 : tie.Need-returns-4
+returns-4 c = sym (number-none _ _ _ (tested isDigit (c .before .before .byte-at .ensures) (c .before .is-digit .ensures) (c .if1 .left)))
+
+pub read-number-spec : {M : Type 1} → statement M
+read-number-spec =
+    tie.close
+    (tie.spec (λ c κs. search needs) (λ c κs. search needs)
+    add-next (λ c κs. search needs) (λ c κs. search needs)
+    returns
+    returns-2 (λ c κs. search needs)
+    returns-3
+    returns-4)

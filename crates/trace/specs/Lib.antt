@@ -1,4 +1,0 @@
-pub mod Types
-pub mod Search
-pub mod TraceText
-pub mod Meaning

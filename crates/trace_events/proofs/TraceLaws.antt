@@ -1,0 +1,17 @@
+-- The events of a trace as its array holds them. Assumes nothing.
+use Prim.Native.Nat.{ℕ, _+_, _<_, _≤_}
+use mathlib.Core.Path.{_≡_, sym, ap, _∙_}
+use mathlib.Core.List.{List, [], _∷_, _++_, map}
+use native.Mathlib.Numerals.{add-one}
+use lib.ListN.{length, take, getD, set, length-map}
+use lib.Seq.{length-take-le, getD-take, take-suc-set}
+use Rattle.trace_events.specs.Types.{Trace}
+use Rattle.trace_events.specs.Events.{eventsOf, noEvent, eventAt}
+
+pub length-events : (t : Trace) → t .len ≤ length (t .events) → length (eventsOf t) ≡ t .len
+unfolding eventsOf
+length-events t h = length-take-le (t .len) (t .events) h
+
+pub event-at : (t : Trace) (i : ℕ) → i < t .len → eventAt (eventsOf t) i ≡ getD (t .events) i noEvent
+unfolding eventsOf
+event-at t i h = getD-take (t .len) (t .events) i noEvent h

@@ -1,0 +1,67 @@
+// Which operations a barrier of their switch orders.
+use flow_table::Operation;
+use flow_table::TableOperation;
+ghost use mathlib.Core.Path.{_≡_};
+ghost use Rattle.flow_table.specs.Switches.{switchOf};
+ghost use Rattle.trace_events.specs.Events.{isBarrier, barrierOrders, isWrite};
+ghost use Rattle.trace_events.specs.Precedence.{barrierStep};
+
+// The switch of an operation; 0 of `oth`, which has none.
+pub fn switch_of(o: Operation) -> u8
+    ensures { λ r. ⌜ r ≡ switchOf o ⌝ }
+{
+    match o {
+        Operation::Other => 0,
+        Operation::Barrier(w) => w,
+        Operation::Message(w) => w,
+        Operation::Table(w, _) => w,
+    }
+}
+
+pub fn is_barrier(o: Operation) -> bool
+    ensures { λ r. ⌜ r ≡ isBarrier o ⌝ }
+{
+    match o {
+        Operation::Other => false,
+        Operation::Barrier(_) => true,
+        Operation::Message(_) => false,
+        Operation::Table(_, _) => false,
+    }
+}
+
+// Every table operation but a packet.
+pub fn is_write(o: TableOperation) -> bool
+    ensures { λ r. ⌜ r ≡ isWrite o ⌝ }
+{
+    match o {
+        TableOperation::Packet(_) => false,
+        TableOperation::Add(_) => true,
+        TableOperation::AddChecked(_) => true,
+        TableOperation::ModifyStrict(_) => true,
+        TableOperation::Modify(_) => true,
+        TableOperation::DeleteStrict(_) => true,
+        TableOperation::Delete(_) => true,
+    }
+}
+
+// Among writes, `bar` and `msg`.
+pub fn barrier_orders(o: Operation) -> bool
+    ensures { λ r. ⌜ r ≡ barrierOrders o ⌝ }
+{
+    match o {
+        Operation::Other => false,
+        Operation::Barrier(_) => true,
+        Operation::Message(_) => true,
+        Operation::Table(_, t) => is_write(t),
+    }
+}
+
+// Both on one switch, both among writes, `bar` and `msg`, and one is `bar`.
+pub fn barrier_step(a: Operation, b: Operation) -> bool
+    ensures { λ r. ⌜ r ≡ barrierStep a b ⌝ }
+{
+    (switch_of(a) == switch_of(b))
+        & barrier_orders(a)
+        & barrier_orders(b)
+        & (is_barrier(a) | is_barrier(b))
+}

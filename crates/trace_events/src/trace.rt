@@ -1,0 +1,27 @@
+// A trace: its events in an array, and how many there are.
+use crate::event::Event;
+use crate::tokens::Tokens;
+use flow_table::Operation;
+ghost use mathlib.Core.Path.{_≡_};
+ghost use mathlib.Core.List.{[]};
+ghost use Rattle.trace_events.specs.Events.{eventsOf};
+
+pub struct Trace {
+    pub events: [Event; 256],
+    pub len: usize,
+}
+
+impl Trace {
+    pub fn empty() -> Trace
+        ensures { λ r. ⌜ (eventsOf r ≡ []) × (r .len ≡ 0) ⌝ }
+    {
+        let none = Tokens::none();
+        let idle = Event {
+            ins: none,
+            outs: none,
+            operation: Operation::Other,
+        };
+        let events = [idle; 256];
+        Trace { events, len: 0 }
+    }
+}

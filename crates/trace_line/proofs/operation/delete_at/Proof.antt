@@ -1,0 +1,12 @@
+use borrow.Author.Needs.{needs}
+use Rattle.text_numbers.proofs.Readers.{seen, mapped-none, mapped-some}
+use Rattle.text_fields.specs.Read.{asMatch}
+use Rattle.trace_line.proofs.operation.delete_at.Statement.{statement}
+use Rattle.trace_line.proofs.operation.delete_at.Tie as tie
+
+pub delete-at-spec : {M : Type 1} → statement M
+delete-at-spec =
+    tie.close
+    (tie.spec (λ c κs. search needs) (λ c. search needs) (λ c. search needs)
+    (λ c. mapped-none _ _ _ _ (seen asMatch (c .before .before .match-at .ensures) (c .enum-told .given .1)))
+    (λ c. mapped-some _ _ _ _ (seen asMatch (c .before .before .before .match-at .ensures) (c .before .value .given .1))))

@@ -1,0 +1,19 @@
+use borrow.Author.Needs.{needs}
+use Rattle.trace_line.specs.Words.{readWord}
+use Rattle.trace_line.proofs.WordLaws.{word-before}
+use Rattle.trace_line.proofs.words.read_word.Statement.{statement}
+use Rattle.trace_line.proofs.words.read_word.Tie as tie
+
+pub read-word-spec : {M : Type 1} → statement M
+unfolding readWord
+read-word-spec =
+    tie.close
+    (tie.spec (λ c κs. search needs) (λ c. search needs) (λ c κs. search needs) (λ c. search needs) (λ c κs. search needs) (λ c. search needs) (λ c κs. search needs) (λ c. search needs) (λ c κs. search needs)
+    (λ c. word-before _ _ _ _
+    (word-before _ _ _ _
+    (word-before _ _ _ _
+    (word-before _ _ _ _ (c .before .before .before .before .before .before .before .before .write-word .ensures)
+    (c .before .before .before .before .before .before .word-or .ensures))
+    (c .before .before .before .before .word-or2 .ensures))
+    (c .before .before .word-or3 .ensures))
+    (c .word-or4 .ensures)))

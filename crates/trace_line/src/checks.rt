@@ -1,0 +1,27 @@
+// What is refused of a line whose items are read.
+use crate::clear::clear_operation;
+use crate::line::EventRead;
+use refusals::Refusal;
+use trace_events::Event;
+ghost use mathlib.Core.Path.{_≡_};
+ghost use mathlib.Core.Bool.{cond};
+ghost use mathlib.Core.Option.{none, some};
+ghost use Rattle.trace_line.specs.EventLine.{onLine, asEvent};
+
+// Malformed where the items do not end with the line, misnumbered, an address bit past its prefix, in this order.
+pub(crate) fn checked(line: usize, number: usize, event: Event, ended: bool) -> EventRead
+    ensures { λ r. ⌜ asEvent r ≡ onLine line (cond ended (some (number, event)) none) ⌝ }
+{
+    let here = number == line;
+    if !ended {
+        return EventRead::Refused(Refusal::TraceMalformed(line));
+    }
+    if !here {
+        return EventRead::Refused(Refusal::EventMisnumbered(line));
+    }
+    let operation = event.operation;
+    if clear_operation(operation) {
+        return EventRead::Read(event);
+    }
+    EventRead::Refused(Refusal::TraceAddressBit(line))
+}

@@ -1,0 +1,56 @@
+// One line of a trace, taken apart or else refused by number.
+use crate::checks::checked;
+use crate::operation::OperationRead;
+use crate::operation::operation_at;
+use crate::words::Word;
+use crate::words::WordRead;
+use crate::words::word_at;
+use refusals::Refusal;
+use text_numbers::Number;
+use text_numbers::number_at;
+use trace_events::Event;
+use trace_tokens::TokensRead;
+use trace_tokens::tokens_at;
+ghost use mathlib.Core.Path.{_≡_};
+ghost use Rattle.text_numbers.specs.Reading.{mapped};
+ghost use Rattle.trace_line.specs.EventLine.{readParts, eventOf, atEnd, onLine, readEvent, asEvent};
+
+// The event of a line, or its refusal.
+pub enum EventRead {
+    Read(Event),
+    Refused(Refusal),
+}
+
+// The line of that number: malformed, misnumbered, an address bit past its prefix, in this order; else its event.
+pub fn event_line(s: &[u8], line: usize) -> EventRead
+    ensures { λ r. ⌜ asEvent r ≡ readEvent line (now (s .entry)) ⌝ }
+{
+    let Number::Read { value: ev, next } = number_at(s, 0, b"ev=", 255) else {
+        return EventRead::Refused(Refusal::TraceMalformed(line));
+    };
+    let WordRead::Read { value: word, next } = word_at(s, next) else {
+        return EventRead::Refused(Refusal::TraceMalformed(line));
+    };
+    event_behind(s, next, line, ev as usize, word)
+}
+
+// The event behind a line's number and word: `in`, `out` and the operation, to the line's end.
+fn event_behind(s: &[u8], at: usize, line: usize, number: usize, word: Word) -> EventRead
+    ensures { λ r. ⌜ asEvent r ≡ onLine line (atEnd (now (s .entry)) (mapped (λ p. (number, eventOf p)) (readParts word) (now (s .entry)) at)) ⌝ }
+{
+    let TokensRead::Read { value: ins, next } = tokens_at(s, at, b"in=") else {
+        return EventRead::Refused(Refusal::TraceMalformed(line));
+    };
+    let TokensRead::Read { value: outs, next } = tokens_at(s, next, b" out=") else {
+        return EventRead::Refused(Refusal::TraceMalformed(line));
+    };
+    let OperationRead::Read { value: op, next } = operation_at(s, next, word) else {
+        return EventRead::Refused(Refusal::TraceMalformed(line));
+    };
+    let event = Event {
+        ins,
+        outs,
+        operation: op,
+    };
+    checked(line, number, event, next == s.len())
+}

@@ -1,0 +1,133 @@
+// The rest of a line behind `in` and `out`, by the word of `do`: the switch and the operation's own fields.
+use crate::words::Word;
+use crate::words::Write;
+use flow::Entry;
+use flow_table::Operation;
+use flow_table::TableOperation;
+use text_fields::EntryRead;
+use text_fields::KeyRead;
+use text_fields::MatchRead;
+use text_fields::PacketRead;
+use text_fields::entry_at;
+use text_fields::key_at;
+use text_fields::match_at;
+use text_fields::packet_at;
+use text_numbers::Number;
+use text_numbers::number_at;
+ghost use mathlib.Core.Path.{_≡_};
+ghost use Rattle.text_numbers.specs.Reading.{mapped};
+ghost use Rattle.text_fields.specs.Read.{readPacket, readEntry, readKey, readMatch};
+ghost use Rattle.trace_line.specs.EventLine.{writeOf, readOn, readOperation, asOperation};
+
+// Switches are 0 to 15.
+const LAST_SWITCH: u16 = 15;
+
+// An operation that was read and the place after it, or no such operation.
+pub enum OperationRead {
+    Read { value: Operation, next: usize },
+    Bad,
+}
+
+fn write_of(write: Write, entry: Entry) -> TableOperation
+    ensures { λ r. ⌜ r ≡ writeOf write entry ⌝ }
+{
+    match write {
+        Write::Add => TableOperation::Add(entry),
+        Write::AddChecked => TableOperation::AddChecked(entry),
+        Write::ModifyStrict => TableOperation::ModifyStrict(entry),
+        Write::Modify => TableOperation::Modify(entry),
+    }
+}
+
+// Such a write, with its entry.
+fn write_at(s: &[u8], at: usize, w: u8, write: Write) -> OperationRead
+    ensures { λ r. ⌜ asOperation r ≡ mapped (λ e. Operation.Table w (writeOf write e)) readEntry (now (s .entry)) at ⌝ }
+{
+    let EntryRead::Read { value: entry, next } = entry_at(s, at) else {
+        return OperationRead::Bad;
+    };
+    let operation = write_of(write, entry);
+    OperationRead::Read {
+        value: Operation::Table(w, operation),
+        next,
+    }
+}
+
+// `pkt`: a packet.
+fn lookup_at(s: &[u8], at: usize, w: u8) -> OperationRead
+    ensures { λ r. ⌜ asOperation r ≡ mapped (λ p. Operation.Table w (TableOperation.Packet p)) readPacket (now (s .entry)) at ⌝ }
+{
+    let PacketRead::Read { value, next } = packet_at(s, at) else {
+        return OperationRead::Bad;
+    };
+    OperationRead::Read {
+        value: Operation::Table(w, TableOperation::Packet(value)),
+        next,
+    }
+}
+
+// `dels`: a key.
+fn delete_strict_at(s: &[u8], at: usize, w: u8) -> OperationRead
+    ensures { λ r. ⌜ asOperation r ≡ mapped (λ k. Operation.Table w (TableOperation.DeleteStrict k)) readKey (now (s .entry)) at ⌝ }
+{
+    let KeyRead::Read { value, next } = key_at(s, at) else {
+        return OperationRead::Bad;
+    };
+    OperationRead::Read {
+        value: Operation::Table(w, TableOperation::DeleteStrict(value)),
+        next,
+    }
+}
+
+// `deln`: a match.
+fn delete_at(s: &[u8], at: usize, w: u8) -> OperationRead
+    ensures { λ r. ⌜ asOperation r ≡ mapped (λ m. Operation.Table w (TableOperation.Delete m)) readMatch (now (s .entry)) at ⌝ }
+{
+    let MatchRead::Read { value, next } = match_at(s, at) else {
+        return OperationRead::Bad;
+    };
+    OperationRead::Read {
+        value: Operation::Table(w, TableOperation::Delete(value)),
+        next,
+    }
+}
+
+// The operation of a word on switch w, with its own fields.
+fn fields_at(s: &[u8], at: usize, word: Word, w: u8) -> OperationRead
+    ensures { λ r. ⌜ asOperation r ≡ readOn word w (now (s .entry)) at ⌝ }
+{
+    match word {
+        Word::Other => OperationRead::Read {
+            value: Operation::Other,
+            next: at,
+        },
+        Word::Barrier => OperationRead::Read {
+            value: Operation::Barrier(w),
+            next: at,
+        },
+        Word::Message => OperationRead::Read {
+            value: Operation::Message(w),
+            next: at,
+        },
+        Word::Packet => lookup_at(s, at, w),
+        Word::Write(write) => write_at(s, at, w, write),
+        Word::DeleteStrict => delete_strict_at(s, at, w),
+        Word::Delete => delete_at(s, at, w),
+    }
+}
+
+// The operation of a word: for all but `oth` the switch, and then its own fields.
+pub fn operation_at(s: &[u8], at: usize, word: Word) -> OperationRead
+    ensures { λ r. ⌜ asOperation r ≡ readOperation word (now (s .entry)) at ⌝ }
+{
+    if let Word::Other = word {
+        return OperationRead::Read {
+            value: Operation::Other,
+            next: at,
+        };
+    }
+    let Number::Read { value, next } = number_at(s, at, b" sw=", LAST_SWITCH) else {
+        return OperationRead::Bad;
+    };
+    fields_at(s, next, word, value as u8)
+}

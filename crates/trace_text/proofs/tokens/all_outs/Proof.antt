@@ -1,0 +1,43 @@
+-- The invariant: the array has what the lines before k put out.
+use Prim.Native.Nat.{ℕ, _-_, _≤_, _<_}
+use mathlib.Core.Path.{_≡_, refl}
+use native.Mathlib.Omega.{arith}
+use lib.ListN.{length, length-set, getD}
+use borrow.Author.Needs.{needs}
+use Rattle.trace_events.specs.Events.{eventsOf, eventAt, noTokens}
+use Rattle.basics.proofs.Arrays.{length-mapped}
+use Rattle.trace_text.proofs.TokenChecks.{outs-more}
+use Rattle.trace_text.proofs.tokens.all_outs.Statement.{statement}
+use Rattle.trace_text.proofs.tokens.all_outs.Tie as tie
+
+abbrev Inv-loop : tie.InvT-loop
+Inv-loop t n all₀ k₀ all k =
+    (k ≤ n) × (length (t .events) ≡ 256) × (length all ≡ 256) × ((i : ℕ) → i < k → getD all i noTokens ≡ eventAt (eventsOf t) i .outs)
+
+abbrev μ-loop : tie.MeasureT-loop
+μ-loop t n all₀ k₀ all k = n - k
+
+loop-holds : tie.Need-loop-holds Inv-loop μ-loop
+loop-holds c = (omega arith, search (needs, length-mapped), refl, λ i l. absurd (omega arith))
+
+loop-again : tie.Need-loop-again Inv-loop μ-loop
+loop-again c =
+    let l = c .before .before .before .loop in (
+      omega arith,
+      l .inv .1,
+      simp length-set (l .inv .2),
+      outs-more _ (l .all) (l .k) (omega arith) (omega arith) (l .inv .3),
+    )
+
+returns : tie.Need-returns Inv-loop μ-loop
+returns c = λ k l. c .before .loop .inv .3 k (omega arith)
+
+pub all-outs-spec : {M : Type 1} → statement M
+all-outs-spec =
+    tie.close
+    (tie.spec
+    Inv-loop
+    μ-loop (λ c κs. search needs)
+    loop-holds (λ c. omega arith) (λ c. omega arith) (λ c. omega arith) (λ c. omega arith) (λ c. omega arith) (λ c. omega arith)
+    loop-again
+    returns)

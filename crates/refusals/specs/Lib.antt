@@ -1,3 +1,4 @@
 pub mod Types
 pub mod Refusals
+pub mod Checks
 pub mod Refused

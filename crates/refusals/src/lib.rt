@@ -5,6 +5,7 @@ pub mod refused;
 
 pub use line::refused_line;
 pub use line::text_in;
+pub use refusal::Outcome;
 pub use refusal::Refusal;
 pub use refusal::Returned;
 pub use refusal::Source;

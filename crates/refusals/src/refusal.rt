@@ -25,6 +25,12 @@ pub enum Refusal {
     TooManyEntries,
 }
 
+// What a check answers: accepted, or what is refused.
+pub enum Outcome {
+    Accepted,
+    Refused(Refusal),
+}
+
 // The text that the place of a refusal is a line of.
 pub enum Source {
     Neither,

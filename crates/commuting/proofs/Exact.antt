@@ -9,7 +9,7 @@ use lib.Dec.{eqb}
 use borrow.Author.Tests.{eq-eqb, not-false}
 use Rattle.flow.specs.Matches.{fits, overlaps, meet}
 use Rattle.flow.specs.Entries.{sameKey, sameAction}
-use Rattle.basics.proofs.Booleans.{split, and-intro, and-cases, or-left, or-right}
+use Rattle.basics.proofs.Booleans.{split, and-intro, and-cases, or-left, or-right, and-true}
 use Rattle.flow.proofs.Field.{within-self, meet-left, meet-right, overlap-sym, within-overlap}
 use Rattle.flow.proofs.Matches.{match-field}
 use Rattle.flow.proofs.Entries.{same-eq, same-self, same-sym, differ-of, action-self}
@@ -17,8 +17,8 @@ use Rattle.flow_table.specs.FlowTable.{Table, entry, get, insert, removeIf, ass
 use Rattle.flow_table.proofs.TableLaws.{get-insert, get-assign, any-assign, none-some}
 use Rattle.flow_table.proofs.Effects.{addc-yes, modn-yes, modn-no}
 use Rattle.commuting.specs.Types.{Match, Packet, Action, Key, Entry, Answer}
-use Rattle.commuting.specs.Commuting.{Agree, add-add, add-dels, add-deln, add-modn, addc-modn, modn-dels, modn-modn, commutes, one, at, witness}
-use Rattle.commuting.proofs.Sound.{inside-self, clash-self, agree-sym}
+use Rattle.commuting.specs.Commuting.{Agree, add-add, add-dels, add-deln, add-modn, addc-other, addc-modn, modn-dels, modn-modn, commutes, one, at, witness}
+use Rattle.commuting.proofs.Sound.{inside-self, clash-self, agree-sym, clashes}
 
 -- a false test that follows from an equation
 action-differ : (a b : Action) → sameAction a b ≡ false → a ≡ b → ⊥
@@ -68,9 +68,9 @@ module _ (j : Key) (a : Action) (k : Key) (b : Action) where
   add-add-tell : add-add j a k b ≡ false → Agree (add j a) (add k b) [] → ⊥
   unfolding after
   add-add-tell h g =
-      let e = same-eq j k (not-false (sameKey j k) (or-right (sameAction a b) (not (sameKey j k)) h)) in
+      let e = same-eq j k (not-false (sameKey j k) (or-left (not (sameKey j k)) (sameAction a b) h)) in
       let f : get k (insert j a (insert k b [])) ≡ some a = rw (← e) (get-here j a (insert j b [])) in
-      tell k (g .tables) (get-here k b (insert j a [])) f (λ q. some-differ a b (or-left (sameAction a b) (not (sameKey j k)) h) (sym q))
+      tell k (g .tables) (get-here k b (insert j a [])) f (λ q. some-differ a b (or-right (not (sameKey j k)) (sameAction a b) h) (sym q))
 
   -- only the add's key, against both
   two-tell : sameKey j k ≡ false → assignIf (inside (k .pattern)) b (insert j a []) ≡ insert j a (insert k b []) → ⊥
@@ -83,12 +83,12 @@ module _ (j : Key) (a : Action) (k : Key) (b : Action) where
   add-modn-tell : add-modn j a k b ≡ false → Agree (add j a) (modn k b) [] → ⊥
   unfolding after
   add-modn-tell h g =
-      let w = not-false (inside (k .pattern) j) (or-left (not (inside (k .pattern) j)) (sameAction a b && sameKey j k) h) in
+      let w = not-false (inside (k .pattern) j) (or-left (not (inside (k .pattern) j)) (sameKey j k && sameAction a b) h) in
       let e : assignIf (inside (k .pattern)) b (insert j a []) ≡ insert j a (insert k b []) = sym (modn-yes k b (insert j a []) (rw w refl)) ∙ g .tables in
       let l : get j (assignIf (inside (k .pattern)) b (insert j a [])) ≡ some b = get-assign j (inside (k .pattern)) b (insert j a []) ∙ rw (w, get-here j a []) refl in
-      and-cases (sameAction a b) (sameKey j k) (or-right (not (inside (k .pattern) j)) (sameAction a b && sameKey j k) h)
-      (λ d. tell j e l (get-here j a (insert k b [])) (λ q. some-differ a b d (sym q)))
+      and-cases (sameKey j k) (sameAction a b) (or-right (not (inside (k .pattern) j)) (sameKey j k && sameAction a b) h)
       (λ d. two-tell d e)
+      (λ d. tell j e l (get-here j a (insert k b [])) (λ q. some-differ a b d (sym q)))
 
   addc-modn-tell : addc-modn j k ≡ false → Agree (addc j a) (modn k b) [] → ⊥
   unfolding after
@@ -96,7 +96,7 @@ module _ (j : Key) (a : Action) (k : Key) (b : Action) where
     where
       calm : clash j k ≡ false → ⊥
       calm c =
-          let w : inside (k .pattern) j ≡ true = and-cases (not (inside (k .pattern) j)) (not (clash j k)) h (not-false (inside (k .pattern) j)) (λ u. absurd (true≢false (sym (not-false (clash j k) u) ∙ c))) in
+          let w : inside (k .pattern) j ≡ true = and-cases (not (inside (k .pattern) j)) (addc-other j k) h (not-false (inside (k .pattern) j)) (λ u. absurd (true≢false (sym (clashes j k u) ∙ c))) in
           let d : sameKey j k ≡ false = differ-of j k (λ q. true≢false (sym (clash-self j) ∙ ap (clash j) q ∙ c)) in
           two-tell d (sym (modn-yes k b (insert j a []) (rw w refl)) ∙ g .tables ∙ addc-yes j a (insert k b []) (rw c refl))
 
@@ -118,18 +118,18 @@ module _ (j : Key) (a : Action) (k : Key) (b : Action) where
   unfolding after
   modn-modn-tell h g = split (sameAction a b) (λ c. equal (rw c at h) (rw c at g)) (λ c. unequal c (rw c at g))
     where
-      equal : (not (overlaps (j .pattern) (k .pattern)) || ((not (inside (k .pattern) j) && not (inside (j .pattern) k)) || sameKey j k)) ≡ false
+      equal : (not (overlaps (j .pattern) (k .pattern)) || ((not (inside (k .pattern) j) && not (inside (j .pattern) k)) || (sameKey j k && true))) ≡ false
           → Agree (modn j a) (modn k b) [] → ⊥
       equal e f =
-          let r = or-right (not (overlaps (j .pattern) (k .pattern))) ((not (inside (k .pattern) j) && not (inside (j .pattern) k)) || sameKey j k) e in
-          let n = or-right (not (inside (k .pattern) j) && not (inside (j .pattern) k)) (sameKey j k) r in
-          and-cases (not (inside (k .pattern) j)) (not (inside (j .pattern) k)) (or-left (not (inside (k .pattern) j) && not (inside (j .pattern) k)) (sameKey j k) r)
+          let r = or-right (not (overlaps (j .pattern) (k .pattern))) ((not (inside (k .pattern) j) && not (inside (j .pattern) k)) || (sameKey j k && true)) e in
+          let n = sym (and-true (sameKey j k)) ∙ or-right (not (inside (k .pattern) j) && not (inside (j .pattern) k)) (sameKey j k && true) r in
+          and-cases (not (inside (k .pattern) j)) (not (inside (j .pattern) k)) (or-left (not (inside (k .pattern) j) && not (inside (j .pattern) k)) (sameKey j k && true) r)
           (λ v. found-tell (not-false (inside (k .pattern) j) v) (sym (same-sym j k) ∙ n) (f .tables))
           (λ v. Rattle.commuting.proofs.Exact.found-tell k b j a (not-false (inside (j .pattern) k) v) n (sym (f .tables)))
 
       o : overlaps (j .pattern) (k .pattern) ≡ true
       o = not-false (overlaps (j .pattern) (k .pattern)) (or-left (not (overlaps (j .pattern) (k .pattern)))
-          ((sameAction a b && (not (inside (k .pattern) j) && not (inside (j .pattern) k))) || (sameAction a b && sameKey j k)) h)
+          ((sameAction a b && (not (inside (k .pattern) j) && not (inside (j .pattern) k))) || (sameKey j k && sameAction a b)) h)
 
       unequal : sameAction a b ≡ false → Agree (modn j a) (modn k b) (one (at (0) (meet (j .pattern) (k .pattern)))) → ⊥
       unequal c f =
@@ -147,7 +147,7 @@ module _ (j : Key) (a : Action) (k : Key) (b : Action) where
 module _ (j : Key) (a : Action) where
   add-dels-tell : (k : Key) → add-dels j k ≡ false → Agree (add j a) (dels k) [] → ⊥
   unfolding after
-  add-dels-tell k h g = tell j (sym (gone (sameKey k) j a (not-false (sameKey k j) h)) ∙ g .tables) refl (get-here j a []) none-some
+  add-dels-tell k h g = tell j (sym (gone (sameKey k) j a (sym (same-sym j k) ∙ not-false (sameKey j k) h)) ∙ g .tables) refl (get-here j a []) none-some
 
   add-deln-tell : (m : Match) → add-deln j m ≡ false → Agree (add j a) (deln m) [] → ⊥
   unfolding after
@@ -223,16 +223,16 @@ commutes-exact (pkt p) (deln m) h g = pkt-deln-tell p m (not-false (fits m p) h)
 commutes-exact (add j a) idle h g = true≢false h
 commutes-exact (add j a) (pkt p) h g = pkt-add-tell p j a (not-false (admits p j) h) (agree-sym g)
 commutes-exact (add j a) (add k b) h g = add-add-tell j a k b h g
-commutes-exact (add j a) (addc k b) h g = addc-add-tell k b j a (not-false (clash k j) h) (agree-sym g)
+commutes-exact (add j a) (addc k b) h g = addc-add-tell k b j a (clashes k j h) (agree-sym g)
 commutes-exact (add j a) (modn k b) h g = add-modn-tell j a k b h g
 commutes-exact (add j a) (dels k) h g = add-dels-tell j a k h g
 commutes-exact (add j a) (deln m) h g = add-deln-tell j a m h g
 commutes-exact (addc j a) idle h g = true≢false h
 commutes-exact (addc j a) (pkt p) h g = pkt-addc-tell p j a (not-false (admits p j) h) (agree-sym g)
-commutes-exact (addc j a) (add k b) h g = addc-add-tell j a k b (not-false (clash j k) h) g
-commutes-exact (addc j a) (addc k b) h g = addc-addc-tell j a k b (not-false (clash j k) h) g
+commutes-exact (addc j a) (add k b) h g = addc-add-tell j a k b (clashes j k h) g
+commutes-exact (addc j a) (addc k b) h g = addc-addc-tell j a k b (clashes j k h) g
 commutes-exact (addc j a) (modn k b) h g = addc-modn-tell j a k b h g
-commutes-exact (addc j a) (dels k) h g = addc-dels-tell j a k (not-false (clash j k) h) g
+commutes-exact (addc j a) (dels k) h g = addc-dels-tell j a k (clashes j k h) g
 commutes-exact (addc j a) (deln m) h g = addc-deln-tell j a m (not-false (overlaps (j .pattern) m) h) g
 commutes-exact (modn j a) idle h g = true≢false h
 commutes-exact (modn j a) (pkt p) h g = pkt-modn-tell p j a (not-false (admits p j) h) (agree-sym g)
@@ -244,7 +244,7 @@ commutes-exact (modn j a) (deln m) h g = modn-deln-tell j a m (not-false (overla
 commutes-exact (dels j) idle h g = true≢false h
 commutes-exact (dels j) (pkt p) h g = pkt-dels-tell p j (not-false (admits p j) h) (agree-sym g)
 commutes-exact (dels j) (add k b) h g = add-dels-tell k b j h (agree-sym g)
-commutes-exact (dels j) (addc k b) h g = addc-dels-tell k b j (not-false (clash k j) h) (agree-sym g)
+commutes-exact (dels j) (addc k b) h g = addc-dels-tell k b j (clashes k j h) (agree-sym g)
 commutes-exact (dels j) (modn k b) h g = modn-dels-tell k b j h (agree-sym g)
 commutes-exact (dels j) (dels k) h g = true≢false h
 commutes-exact (dels j) (deln m) h g = true≢false h

@@ -1,46 +1,19 @@
 -- The marked cases of document 01, in one theorem about commuting. What the document leaves open (priorities n and m, actions a and
 -- b, the packet's other fields) is any. Assumes nothing.
 use mathlib.Core.Path.{_≡_, refl, _∙_, ap}
-use mathlib.Core.Bool.{Bool, true, false}
+use mathlib.Core.Bool.{Bool, true, false, and-false}
 use mathlib.Core.List.{List, [], _∷_}
 use Prim.Native.Nat.{ℕ}
 use lib.Dec.{lit<, lit≤}
 use Rattle.flow.specs.Matches.{prefixFits, fits, overlaps, within, MatchInRange}
-use Rattle.flow.specs.Entries.{orderOf, thenBy, rank, matchOrder, keyOrder, sameKey, sameAction}
+use Rattle.flow.specs.Entries.{rank, matchOrder, keyOrder, sameKey, sameAction}
+use Rattle.flow.specs.Orders.{orderOf, thenBy}
 use Rattle.flow.proofs.PrefixField.{prefix-clear-means, prefix-fits-leading}
 use Rattle.flow.proofs.Leading.{overlaps-by-bits, within-by-bits, other-destination}
 use Rattle.flow_table.specs.FlowTable.{pkt, add, addc, modn, dels, deln}
 use Rattle.commuting.specs.Types.{Match, Packet, Action, Exact}
-use Rattle.commuting.specs.Commuting.{at, commutes}
-
--- A: dst 0a000000/8; B: dst 0a010000/16; D: dport 80; else any
-abbrev pub A : Match
-A = record { port = Exact.Any; src = record { value = 0; length = 0 }; dst = record { value = 0x0a000000; length = 8 }; proto = Exact.Any; sport = Exact.Any; dport = Exact.Any }
-
-abbrev pub B : Match
-B = record { port = Exact.Any; src = record { value = 0; length = 0 }; dst = record { value = 0x0a010000; length = 16 }; proto = Exact.Any; sport = Exact.Any; dport = Exact.Any }
-
-abbrev pub D : Match
-D = record { port = Exact.Any; src = record { value = 0; length = 0 }; dst = record { value = 0; length = 0 }; proto = Exact.Any; sport = Exact.Any; dport = Exact.Is 80 }
-
-abbrev pub verdicts : ℕ → ℕ → Action → Action → Packet → List Bool
-verdicts n m a b p =
-    -- commute
-    commutes (add (at 5 A) (Action.Port 1)) (add (at 5 A) (Action.Port 1))
-    ∷ commutes (add (at 5 A) a) (addc (at 6 B) b)
-    ∷ commutes (modn (at 5 A) (Action.Port 1)) (modn (at 5 D) (Action.Port 1))
-    ∷ commutes (deln A) (dels (at 5 B))
-    ∷ commutes (deln A) (add (at 5 D) a)
-    ∷ commutes (pkt p) (add (at n A) a)
-    -- don't
-    ∷ commutes (add (at 5 A) (Action.Port 1)) (add (at 5 A) (Action.Port 2))
-    ∷ commutes (add (at 5 A) a) (addc (at 5 B) b)
-    ∷ commutes (modn (at 5 A) (Action.Port 1)) (modn (at 5 B) (Action.Port 1))
-    ∷ commutes (modn (at n A) (Action.Port 1)) (modn (at m D) (Action.Port 2))
-    ∷ commutes (deln A) (addc (at 5 D) a)
-    ∷ commutes (modn (at n A) a) (dels (at 5 B))
-    ∷ commutes (addc (at 5 A) a) (addc (at 5 A) b)
-    ∷ []
+use Rattle.commuting.specs.Commuting.{commutes}
+use Rattle.commuting.specs.Marked.{A, B, D, markedCases}
 
 -- the three matches are in range
 A-in-range : MatchInRange A
@@ -98,6 +71,6 @@ to-0b : (p : Packet) → p .dst ≡ 0x0b000000 → fits A p ≡ false
 to-0b p e = other-destination A p (ap (λ x. prefixFits (A .dst) x) e ∙ prefix-fits-leading (A .dst) 0x0b000000 (lit< tt) (lit< tt))
 
 pub marked : (n m : ℕ) (a b : Action) (p : Packet) → p .dst ≡ 0x0b000000
-    → verdicts n m a b p ≡ true ∷ true ∷ true ∷ true ∷ true ∷ true ∷ false ∷ false ∷ false ∷ false ∷ false ∷ false ∷ false ∷ []
+    → markedCases n m a b p ≡ true ∷ true ∷ true ∷ true ∷ true ∷ true ∷ false ∷ false ∷ false ∷ false ∷ false ∷ false ∷ false ∷ []
 unfolding commutes sameKey keyOrder matchOrder rank orderOf thenBy sameAction
-marked n m a b p e = rw (A-over-A, B-over-A, A-over-D, D-over-A, A-over-B, A-in-D, D-in-A, A-in-B, B-in-A, to-0b p e) refl
+marked n m a b p e = rw (A-over-A, B-over-A, A-over-D, D-over-A, A-over-B, A-in-D, D-in-A, A-in-B, B-in-A, to-0b p e, and-false) refl

@@ -3,18 +3,18 @@ use mathlib.Core.Path.{_≡_, refl, sym, _∙_, ap}
 use mathlib.Core.Bool.{Bool, true, false, _&&_, _||_, not, cond, true≢false}
 use mathlib.Core.Option.{Option, none, some}
 use lib.Dec.{eqb}
-use borrow.Author.Tests.{eqb-true, eq-eqb, not-true}
+use borrow.Author.Tests.{eqb-true, eq-eqb, not-true, not-false}
 use Rattle.flow.specs.Matches.{fits, within, overlaps}
 use Rattle.flow.specs.Entries.{sameKey, sameAction}
-use Rattle.basics.proofs.Booleans.{split, and-left, and-right, and-intro, or-cases, cond-same, cond-swap}
+use Rattle.basics.proofs.Booleans.{split, and-left, and-right, and-intro, and-false-right, or-left, or-right, or-cases, cond-same, cond-swap}
 use Rattle.flow.proofs.Field.{within-self, overlap-sym, within-overlap, overlap-up}
 use Rattle.flow.proofs.Matches.{match-field}
-use Rattle.flow.proofs.Entries.{same-eq, differ, differ-of, action-eq}
+use Rattle.flow.proofs.Entries.{same-eq, differ, differ-of, action-eq, same-sym}
 use Rattle.flow_table.specs.FlowTable.{Table, Sorted, get, insert, removeIf, assignIf, anyOf, overwrite, fitting, best, Effect, pkt, add, addc, modn, dels, deln, idle, after, answer, inside, clash, admits}
 use Rattle.flow_table.proofs.TableLaws.{sorted-insert, sorted-remove, sorted-assign, get-insert, get-remove, get-assign, any-insert, any-assign, any-remove, any-none, table-ext}
 use Rattle.flow_table.proofs.Effects.{addc-no, addc-yes, modn-yes, modn-no, sorted-after}
 use Rattle.commuting.specs.Types.{Match, Packet, Action, Key, Answer}
-use Rattle.commuting.specs.Commuting.{Agree, add-add, add-dels, add-deln, add-modn, addc-modn, modn-dels, modn-modn, commutes}
+use Rattle.commuting.specs.Commuting.{Agree, add-add, add-dels, add-deln, add-modn, addc-other, addc-modn, modn-dels, modn-modn, commutes}
 
 -- the three changes of a table, two at a time
 insert-insert : (j k : Key) (a b : Action) → sameKey j k ≡ false → (t : Table) → Sorted t → insert k b (insert j a t) ≡ insert j a (insert k b t)
@@ -92,6 +92,19 @@ inside-self k = within-self match-field (k .pattern)
 
 pub clash-self : (k : Key) → clash k k ≡ true
 clash-self k = and-intro (eq-eqb (k .priority) (k .priority) refl) (within-overlap match-field (k .pattern) (k .pattern) (inside-self k))
+
+-- priorities differ or no overlap: no clash, and the reverse
+calm : (j k : Key) → addc-other j k ≡ true → clash j k ≡ false
+calm j k h =
+    let p = eqb (j .priority) (k .priority) in
+    let o = overlaps (j .pattern) (k .pattern) in
+    or-cases (not p) (not o) h (λ e. rw (not-true p e)) (λ e. and-false-right p (not-true o e))
+
+pub clashes : (j k : Key) → addc-other j k ≡ false → clash j k ≡ true
+clashes j k h =
+    let p = eqb (j .priority) (k .priority) in
+    let o = overlaps (j .pattern) (k .pattern) in
+    and-intro (not-false p (or-left (not p) (not o) h)) (not-false o (or-right (not p) (not o) h))
 
 clash-sym : (j k : Key) → clash j k ≡ true → clash k j ≡ true
 clash-sym j k h =
@@ -182,14 +195,14 @@ any-dels p k t h = any-remove p (sameKey k) (λ i u v. true≢false (sym u ∙ a
 module _ (t : Table) (s : Sorted t) where
   add-add-agree : (j : Key) (a : Action) (k : Key) (b : Action) → add-add j a k b ≡ true → Agree (add j a) (add k b) t
   unfolding after answer
-  add-add-agree j a k b h = record { tables = or-cases (sameAction a b) (not (sameKey j k)) h equal (λ e. insert-insert j k a b (not-true (sameKey j k) e) t s); first = refl; second = refl }
+  add-add-agree j a k b h = record { tables = or-cases (not (sameKey j k)) (sameAction a b) h (λ e. insert-insert j k a b (not-true (sameKey j k) e) t s) equal; first = refl; second = refl }
     where
       equal : sameAction a b ≡ true → insert k b (insert j a t) ≡ insert j a (insert k b t)
       equal u = split (sameKey j k) (λ e. rw (same-eq j k e, action-eq a b u) refl) (λ e. insert-insert j k a b e t s)
 
   add-dels-agree : (j : Key) (a : Action) (k : Key) → add-dels j k ≡ true → Agree (add j a) (dels k) t
   unfolding after answer
-  add-dels-agree j a k h = record { tables = insert-remove j a (sameKey k) (not-true (sameKey k j) h) t s; first = refl; second = refl }
+  add-dels-agree j a k h = record { tables = insert-remove j a (sameKey k) (sym (same-sym j k) ∙ not-true (sameKey j k) h) t s; first = refl; second = refl }
 
   add-deln-agree : (j : Key) (a : Action) (m : Match) → add-deln j m ≡ true → Agree (add j a) (deln m) t
   unfolding after answer
@@ -213,9 +226,9 @@ module _ (t : Table) (s : Sorted t) where
 
   add-modn-agree : (j : Key) (a : Action) (k : Key) (b : Action) → add-modn j a k b ≡ true → Agree (add j a) (modn k b) t
   unfolding after answer
-  add-modn-agree j a k b h = or-cases (not (inside (k .pattern) j)) (sameAction a b && sameKey j k) h
+  add-modn-agree j a k b h = or-cases (not (inside (k .pattern) j)) (sameKey j k && sameAction a b) h
       (λ e. agree-sym (add-modn-apart j a k b (not-true (inside (k .pattern) j) e)))
-      (λ e. rw (same-eq j k (and-right (sameAction a b) (sameKey j k) e), action-eq a b (and-left (sameAction a b) (sameKey j k) e)) (record { tables = add-modn-same k b; first = refl; second = refl }))
+      (λ e. rw (same-eq j k (and-left (sameKey j k) (sameAction a b) e), action-eq a b (and-right (sameKey j k) (sameAction a b) e)) (record { tables = add-modn-same k b; first = refl; second = refl }))
 
   addc-add-agree : (j : Key) (a : Action) (k : Key) (b : Action) → clash j k ≡ false → Agree (addc j a) (add k b) t
   unfolding after answer
@@ -233,8 +246,8 @@ module _ (t : Table) (s : Sorted t) where
   addc-modn-agree : (j : Key) (a : Action) (k : Key) (b : Action) → addc-modn j k ≡ true → Agree (addc j a) (modn k b) t
   unfolding after answer
   addc-modn-agree j a k b h =
-      addc-agree j a (modn k b) t (any-modn (clash j) k b t (not-true (clash j k) (and-right (not (inside (k .pattern) j)) (not (clash j k)) h)))
-      (λ e. agree-sym (add-modn-apart j a k b (not-true (inside (k .pattern) j) (and-left (not (inside (k .pattern) j)) (not (clash j k)) h))))
+      addc-agree j a (modn k b) t (any-modn (clash j) k b t (calm j k (and-right (not (inside (k .pattern) j)) (addc-other j k) h)))
+      (λ e. agree-sym (add-modn-apart j a k b (not-true (inside (k .pattern) j) (and-left (not (inside (k .pattern) j)) (addc-other j k) h))))
 
   addc-deln-agree : (j : Key) (a : Action) (m : Match) → overlaps (j .pattern) m ≡ false → Agree (addc j a) (deln m) t
   unfolding after answer
@@ -279,9 +292,9 @@ module _ (t : Table) (s : Sorted t) where
   modn-modn-agree j a k b h =
       let c = sameAction a b in
       let both = c && (not (inside (k .pattern) j) && not (inside (j .pattern) k)) in
-      or-cases (not (overlaps (j .pattern) (k .pattern))) (both || (c && sameKey j k)) h clear
-      (λ e. or-cases both (c && sameKey j k) e equal
-      (λ f. rw (same-eq j k (and-right c (sameKey j k) f), action-eq a b (and-left c (sameKey j k) f)) (record { tables = refl; first = refl; second = refl })))
+      or-cases (not (overlaps (j .pattern) (k .pattern))) (both || (sameKey j k && c)) h clear
+      (λ e. or-cases both (sameKey j k && c) e equal
+      (λ f. rw (same-eq j k (and-left (sameKey j k) c f), action-eq a b (and-right (sameKey j k) c f)) (record { tables = refl; first = refl; second = refl })))
     where
       clear : not (overlaps (j .pattern) (k .pattern)) ≡ true → Agree (modn j a) (modn k b) t
       clear e =
@@ -356,16 +369,16 @@ module _ (t : Table) (s : Sorted t) where
   commutes-sound (add j a) idle h = agree-sym (idle-agree (add j a))
   commutes-sound (add j a) (pkt p) h = agree-sym (pkt-add p j a (not-true (admits p j) h))
   commutes-sound (add j a) (add k b) h = add-add-agree j a k b h
-  commutes-sound (add j a) (addc k b) h = agree-sym (addc-add-agree k b j a (not-true (clash k j) h))
+  commutes-sound (add j a) (addc k b) h = agree-sym (addc-add-agree k b j a (calm k j h))
   commutes-sound (add j a) (modn k b) h = add-modn-agree j a k b h
   commutes-sound (add j a) (dels k) h = add-dels-agree j a k h
   commutes-sound (add j a) (deln m) h = add-deln-agree j a m h
   commutes-sound (addc j a) idle h = agree-sym (idle-agree (addc j a))
   commutes-sound (addc j a) (pkt p) h = agree-sym (pkt-addc p j a (not-true (admits p j) h))
-  commutes-sound (addc j a) (add k b) h = addc-add-agree j a k b (not-true (clash j k) h)
-  commutes-sound (addc j a) (addc k b) h = addc-addc-agree j a k b (not-true (clash j k) h)
+  commutes-sound (addc j a) (add k b) h = addc-add-agree j a k b (calm j k h)
+  commutes-sound (addc j a) (addc k b) h = addc-addc-agree j a k b (calm j k h)
   commutes-sound (addc j a) (modn k b) h = addc-modn-agree j a k b h
-  commutes-sound (addc j a) (dels k) h = addc-dels-agree j a k (not-true (clash j k) h)
+  commutes-sound (addc j a) (dels k) h = addc-dels-agree j a k (calm j k h)
   commutes-sound (addc j a) (deln m) h = addc-deln-agree j a m (not-true (overlaps (j .pattern) m) h)
   commutes-sound (modn j a) idle h = agree-sym (idle-agree (modn j a))
   commutes-sound (modn j a) (pkt p) h = agree-sym (pkt-modn p j a (not-true (admits p j) h))
@@ -377,7 +390,7 @@ module _ (t : Table) (s : Sorted t) where
   commutes-sound (dels j) idle h = agree-sym (idle-agree (dels j))
   commutes-sound (dels j) (pkt p) h = agree-sym (pkt-dels p j (not-true (admits p j) h))
   commutes-sound (dels j) (add k b) h = agree-sym (add-dels-agree k b j h)
-  commutes-sound (dels j) (addc k b) h = agree-sym (addc-dels-agree k b j (not-true (clash k j) h))
+  commutes-sound (dels j) (addc k b) h = agree-sym (addc-dels-agree k b j (calm k j h))
   commutes-sound (dels j) (modn k b) h = agree-sym (modn-dels-agree k b j h)
   commutes-sound (dels j) (dels k) h = record { tables = remove-remove (sameKey j) (sameKey k) t s; first = refl; second = refl }
   commutes-sound (dels j) (deln m) h = record { tables = remove-remove (sameKey j) (inside m) t s; first = refl; second = refl }

@@ -4,10 +4,11 @@ use mathlib.Core.Path.{_≡_}
 use mathlib.Core.Bool.{Bool, true, _&&_, _||_, not, cond}
 use mathlib.Core.List.{[], _∷_}
 use Prim.Native.Nat.{ℕ, _≤_}
+use lib.Dec.{eqb}
 use lib.ListN.{length}
 use Rattle.flow.specs.Matches.{fits, overlaps, within, meet, MatchInRange, PacketInRange}
 use Rattle.flow.specs.Entries.{sameKey, sameAction, KeyInRange, ActionInRange}
-use Rattle.flow_table.specs.FlowTable.{Table, entry, Sorted, TableInRange, Effect, pkt, add, addc, modn, dels, deln, idle, after, answer, clash}
+use Rattle.flow_table.specs.FlowTable.{Table, entry, Sorted, TableInRange, Effect, pkt, add, addc, modn, dels, deln, idle, after, answer}
 use Rattle.commuting.specs.Types.{Match, Packet, Action, Key}
 
 -- on the table t both orders leave the same table and give each event the same answer
@@ -25,29 +26,29 @@ Commute v w = (t : Table) → Sorted t → Agree v w t
 abbrev pub pkt-write : Packet → Match → Bool
 pkt-write p m = not (fits m p)
 
--- add, add: actions equal or keys differ
+-- add, add: keys differ or actions equal
 abbrev pub add-add : Key → Action → Key → Action → Bool
-add-add j a k b = sameAction a b || not (sameKey j k)
+add-add j a k b = not (sameKey j k) || sameAction a b
 
 -- add, dels: keys differ
 abbrev pub add-dels : Key → Key → Bool
-add-dels j k = not (sameKey k j)
+add-dels j k = not (sameKey j k)
 
 -- add, deln: 1 not within 2
 abbrev pub add-deln : Key → Match → Bool
 add-deln j m = not (within (j .pattern) m)
 
--- add, modn: 1 not within 2, or same action and key
+-- add, modn: 1 not within 2, or same key and action
 abbrev pub add-modn : Key → Action → Key → Action → Bool
-add-modn j a k b = not (within (j .pattern) (k .pattern)) || (sameAction a b && sameKey j k)
+add-modn j a k b = not (within (j .pattern) (k .pattern)) || (sameKey j k && sameAction a b)
 
 -- addc with add, addc or dels: priorities differ or no overlap
 abbrev pub addc-other : Key → Key → Bool
-addc-other j k = not (clash j k)
+addc-other j k = not (eqb (j .priority) (k .priority)) || not (overlaps (j .pattern) (k .pattern))
 
 -- addc, modn: 1 not within 2, and (priorities differ or no overlap)
 abbrev pub addc-modn : Key → Key → Bool
-addc-modn j k = not (within (j .pattern) (k .pattern)) && not (clash j k)
+addc-modn j k = not (within (j .pattern) (k .pattern)) && addc-other j k
 
 -- addc, deln; modn, deln: no overlap
 abbrev pub apart-deln : Key → Match → Bool
@@ -57,12 +58,12 @@ apart-deln j m = not (overlaps (j .pattern) m)
 abbrev pub modn-dels : Key → Key → Bool
 modn-dels j k = not (within (k .pattern) (j .pattern))
 
--- modn, modn: no overlap; or equal actions and neither within the other; or same action and key
+-- modn, modn: no overlap; or equal actions and neither within the other; or same key and action
 abbrev pub modn-modn : Key → Action → Key → Action → Bool
 modn-modn j a k b =
     not (overlaps (j .pattern) (k .pattern))
     || ((sameAction a b && (not (within (j .pattern) (k .pattern)) && not (within (k .pattern) (j .pattern))))
-    || (sameAction a b && sameKey j k))
+    || (sameKey j k && sameAction a b))
 
 -- which row is for which pair, both ways round; pkt with pkt and delete with delete always commute
 unfoldable pub commutes : Effect → Effect → Bool

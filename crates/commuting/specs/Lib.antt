@@ -1,2 +1,3 @@
 pub mod Types
 pub mod Commuting
+pub mod Marked

@@ -1,2 +1,2 @@
 // Document 01's table of the pairs that commute, a function a row.
-pub mod rows;
+pub mod cases;

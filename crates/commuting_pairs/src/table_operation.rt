@@ -1,14 +1,14 @@
 // Which row of the table is for which pair of operations, both ways round.
-use commuting::rows::add_add;
-use commuting::rows::add_delete;
-use commuting::rows::add_delete_strict;
-use commuting::rows::add_modify;
-use commuting::rows::apart_delete;
-use commuting::rows::checked_modify;
-use commuting::rows::checked_other;
-use commuting::rows::modify_delete_strict;
-use commuting::rows::modify_modify;
-use commuting::rows::packet_write;
+use commuting::cases::add_add;
+use commuting::cases::add_delete;
+use commuting::cases::add_delete_strict;
+use commuting::cases::add_modify;
+use commuting::cases::apart_delete;
+use commuting::cases::checked_modify;
+use commuting::cases::checked_other;
+use commuting::cases::modify_delete_strict;
+use commuting::cases::modify_modify;
+use commuting::cases::packet_write;
 use flow::Entry;
 use flow::Key;
 use flow::Match;

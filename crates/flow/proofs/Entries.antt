@@ -8,7 +8,8 @@ use borrow.Author.Tests.{eqb-true, eq-eqb}
 use Rattle.flow.specs.Types.{Exact, Match, Action, Key, Ordering}
 use Rattle.flow.specs.Entries.{exactRank, rank, matchOrder, keyOrder, isEqual, sameKey, actionCode, sameAction}
 use Rattle.basics.proofs.Booleans.{split}
-use Rattle.flow.proofs.Orders.{IsOrder, opposite, falling, lexicographic, in-turn}
+use Rattle.flow.proofs.Orders.{falling, lexicographic, in-turn}
+use Rattle.flow.specs.Orders.{IsOrder, opposite}
 
 exact-apart : (a b : Exact) → exactRank a ≡ exactRank b → a ≡ b
 exact-apart Exact.Any Exact.Any e = refl

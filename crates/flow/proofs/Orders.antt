@@ -1,5 +1,4 @@
--- Comparisons with three answers: what an order is, and the orders that table order is made of: numbers rising and falling, lists
--- of numbers, one order after another. Assumes nothing.
+-- The orders that table order is made of: numbers rising and falling, lists of numbers, one order after another. Assumes nothing.
 use mathlib.Core.Path.{_≡_, refl, sym, _∙_, ap}
 use mathlib.Core.List.{List, [], _∷_}
 use Prim.Native.Nat.{ℕ, _<_}
@@ -7,20 +6,8 @@ use native.Mathlib.Omega.{arith}
 use lib.Dec.{ltb}
 use borrow.Author.Tests.{lt-ltb, le-ltb, ltb-true, ltb-false}
 use Rattle.flow.specs.Types.{Ordering}
-use Rattle.flow.specs.Entries.{orderOf, thenBy, lexical}
+use Rattle.flow.specs.Orders.{orderOf, thenBy, lexical, opposite, IsOrder}
 use Rattle.basics.proofs.Booleans.{split}
-
-abbrev pub opposite : Ordering → Ordering
-opposite Ordering.Less = Ordering.Greater
-opposite Ordering.Equal = Ordering.Equal
-opposite Ordering.Greater = Ordering.Less
-
--- a strict total order: equal only where the values are, opposite when swapped, transitive
-pub record IsOrder (A : Type 0) (c : A → A → Ordering) : Type 0 where
-  pub same : (a b : A) → c a b ≡ Ordering.Equal → a ≡ b
-  pub self : (a : A) → c a a ≡ Ordering.Equal
-  pub turn : (a b : A) → c b a ≡ opposite (c a b)
-  pub chain : (a b d : A) → c a b ≡ Ordering.Less → c b d ≡ Ordering.Less → c a d ≡ Ordering.Less
 
 pub equal≢less : Ordering.Equal ≡ Ordering.Less → ⊥
 equal≢less p = let z : _≡_ {A = ℕ} 0 1 = cc in omega arith

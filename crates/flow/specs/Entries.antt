@@ -4,25 +4,9 @@ use mathlib.Core.Bool.{Bool, true, false, _&&_, cond}
 use mathlib.Core.List.{List, [], _∷_}
 use Prim.Native.Nat.{ℕ, _+_, _<_}
 use lib.Dec.{eqb, ltb}
+use Rattle.flow.specs.Orders.{lexical, thenBy, orderOf}
 use Rattle.flow.specs.Types.{Exact, Prefix, Match, Action, Key, Entry, Ordering}
 use Rattle.flow.specs.Matches.{MatchInRange}
-
--- the order of two numbers
-unfoldable pub orderOf : ℕ → ℕ → Ordering
-orderOf a b = cond (ltb a b) Ordering.Less (cond (ltb b a) Ordering.Greater Ordering.Equal)
-
--- a comparison, and where that finds no difference another
-unfoldable pub thenBy : Ordering → Ordering → Ordering
-thenBy Ordering.Less o = Ordering.Less
-thenBy Ordering.Equal o = o
-thenBy Ordering.Greater o = Ordering.Greater
-
--- lists of numbers: the first difference decides, and a list's beginning stands before it
-abbrev pub lexical : List ℕ → List ℕ → Ordering
-lexical [] [] = Ordering.Equal
-lexical [] (y ∷ ys) = Ordering.Less
-lexical (x ∷ xs) [] = Ordering.Greater
-lexical (x ∷ xs) (y ∷ ys) = thenBy (orderOf x y) (lexical xs ys)
 
 -- `*` before numbers
 abbrev pub exactRank : Exact → ℕ

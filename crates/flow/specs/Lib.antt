@@ -1,3 +1,4 @@
 pub mod Types
 pub mod Matches
+pub mod Orders
 pub mod Entries

@@ -1,6 +1,6 @@
 // Comparisons with three answers.
 ghost use mathlib.Core.Path.{_≡_};
-ghost use Rattle.flow.specs.Entries.{orderOf, thenBy};
+ghost use Rattle.flow.specs.Orders.{orderOf, thenBy};
 
 pub enum Ordering {
     Less,

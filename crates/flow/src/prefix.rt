@@ -3,7 +3,8 @@ use crate::ordering::Ordering;
 ghost use mathlib.Core.Path.{_≡_};
 ghost use Prim.Native.Nat.{min};
 ghost use Rattle.flow.specs.Matches.{maskOf, sameLeading, prefixFits, prefixOverlaps, prefixWithin, prefixClear};
-ghost use Rattle.flow.specs.Entries.{samePrefix, orderOf, thenBy};
+ghost use Rattle.flow.specs.Entries.{samePrefix};
+ghost use Rattle.flow.specs.Orders.{orderOf, thenBy};
 
 pub struct Prefix {
     pub value: u32,

@@ -40,10 +40,6 @@ module _ (d : ℕ → ℕ → Bool) where
       (λ e. link (rw (eqb-true i (r .0) e) s))
       (λ e. onward (reaches-chain f i (r .0) e) s)
 
--- event i is event k or happens before it, and k directly precedes j
-abbrev pub through : List Event → ℕ → ℕ → ℕ → Bool
-through es i j k = step es k j && (eqb i k || before es i k)
-
 module _ (es : List Event) where
   -- what happens before j: its direct predecessors, and what happens before them
   pub row-union : (i j : ℕ) → before es i j ≡ anyBelow (through es i j) j

@@ -15,9 +15,9 @@ use Rattle.basics.specs.Searches.{anyBelow}
 use Rattle.trace_events.specs.Precedence.{precedes}
 use Rattle.trace_events.proofs.TraceLaws.{length-events, event-at}
 use Rattle.happens_before.specs.Types.{Event, Trace}
-use Rattle.happens_before.specs.Causality.{step, before}
+use Rattle.happens_before.specs.Causality.{step, before, through}
 use Rattle.happens_before.specs.Rows.{member, noMembers, bit, Filled, HappensBefore}
-use Rattle.happens_before.proofs.Chains.{through, before-end}
+use Rattle.happens_before.proofs.Chains.{before-end}
 use Rattle.happens_before.proofs.SetLaws.{member-none, member-nil}
 
 -- a step between two lines of a trace, as its array holds them

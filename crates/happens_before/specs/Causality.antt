@@ -27,3 +27,7 @@ reaches d (suc f) i j = anyBelow (λ k. d k j && (eqb i k || reaches d f i k)) j
 -- event i happens before event j: a chain to j has at most j steps
 unfoldable pub before : List Event → ℕ → ℕ → Bool
 before es i j = reaches (step es) j i j
+
+-- event i is event k or happens before it, and k directly precedes j
+abbrev pub through : List Event → ℕ → ℕ → ℕ → Bool
+through es i j k = step es k j && (eqb i k || before es i k)

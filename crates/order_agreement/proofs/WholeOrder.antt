@@ -12,11 +12,11 @@ use Rattle.flow_table.proofs.Effects.{sorted-after}
 use Rattle.commuting.specs.Commuting.{Agree, commutes}
 use Rattle.commuting.proofs.Sound.{commutes-sound, agree-sym, idle-agree}
 use Rattle.order_meaning.specs.Types.{Operation}
-use Rattle.order_meaning.specs.Orders.{from, stands, IsOrderOf}
+use Rattle.order_meaning.specs.Orders.{from, stands, IsOrderOf, Independent, Agrees}
 use Rattle.order_meaning.specs.Tables.{endTables, answers}
 use Rattle.flow_table.specs.Switches.{Tables, InOrder, switchOf, usesTable, stepOf, replyOf}
 use Rattle.list_verdicts.specs.Kinds.{paired, listed, isKind}
-use Rattle.order_meaning.proofs.OrderLaws.{Independent, Agrees, order-agrees}
+use Rattle.order_meaning.proofs.OrderLaws.{order-agrees}
 
 in-order : (e : Operation) (s : Tables) → InOrder s → InOrder (stepOf e s)
 unfolding stepOf
@@ -75,10 +75,10 @@ unlisted-agree e f o q h u t s =
 module _ (ev : ℕ → Operation) (n : ℕ) (hb : ℕ → ℕ → Bool) (o : List ℕ) (order : IsOrderOf n o)
     (keeps : (i j : ℕ) → i < j → j < n → hb i j ≡ true → stands i j o ≡ true)
     (in-turn : (i j : ℕ) → i < j → j < n → isKind listed (ev i) (ev j) (hb i j) ≡ true → stands i j o ≡ true) where
-  all-agree : (s : Tables) → InOrder s → Agrees (λ i. stepOf (ev i)) (λ i. replyOf (ev i)) InOrder (λ i. in-order (ev i)) o (from 0 n) s
+  all-agree : (s : Tables) → InOrder s → Agrees (λ i. stepOf (ev i)) (λ i. replyOf (ev i)) o (from 0 n) s
   all-agree = order-agrees (λ i. stepOf (ev i)) (λ i. replyOf (ev i)) InOrder (λ i. in-order (ev i)) n o order (λ i j. hb i j || isKind listed (ev i) (ev j) (hb i j)) free kept
     where
-      free : (i j : ℕ) → i < j → j < n → (hb i j || isKind listed (ev i) (ev j) (hb i j)) ≡ false → Independent (λ i. stepOf (ev i)) (λ i. replyOf (ev i)) InOrder (λ i. in-order (ev i)) i j
+      free : (i j : ℕ) → i < j → j < n → (hb i j || isKind listed (ev i) (ev j) (hb i j)) ≡ false → Independent (λ i. stepOf (ev i)) (λ i. replyOf (ev i)) InOrder i j
       free i j l m h =
           let q = or-left (hb i j) (isKind listed (ev i) (ev j) (hb i j)) h in
           let agree = unlisted-agree (ev i) (ev j) (hb i j) q (or-right (hb i j) (isKind listed (ev i) (ev j) (hb i j)) h) in

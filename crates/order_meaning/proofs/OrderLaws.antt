@@ -9,7 +9,7 @@ use native.Mathlib.Omega.{arith}
 use lib.Dec.{eqb, ltb}
 use lib.ListN.{length}
 use borrow.Author.Tests.{eqb-true, eq-eqb, ne-eqb, ltb-true, ltb-false, lt-ltb, le-ltb}
-use Rattle.order_meaning.specs.Orders.{run, replyIn, from, stands, IsOrderOf}
+use Rattle.order_meaning.specs.Orders.{run, replyIn, from, stands, IsOrderOf, Independent, Agrees}
 use Rattle.basics.specs.Searches.{has}
 use Rattle.basics.proofs.Booleans.{split, or-cases, cond-swap}
 
@@ -40,30 +40,19 @@ all-sort P [] k = tt
 all-sort P (x ∷ o) k = all-arrange P x (sort o) (k .0) (all-sort P o (k .1))
 
 module _ {S : Type 0} {A : Type 0} (step : ℕ → S → S) (reply : ℕ → S → A) (Good : S → Type 0) (good : (i : ℕ) (s : S) → Good s → Good (step i s)) where
-  -- two events may change places, whatever the state
-  pub record Independent (i j : ℕ) : Type 0 where
-    pub states : (s : S) → Good s → step j (step i s) ≡ step i (step j s)
-    pub first : (s : S) → Good s → reply i (step j s) ≡ reply i s
-    pub second : (s : S) → Good s → reply j (step i s) ≡ reply j s
-
   -- an event stands before smaller ones only if it is independent of them
   abbrev pub Kept : List ℕ → Type 0
   Kept [] = Unit {0}
-  Kept (x ∷ o) = All (λ y. y < x → Independent y x) o × Kept o
+  Kept (x ∷ o) = All (λ y. y < x → Independent step reply Good y x) o × Kept o
 
-  -- two orders agree from a state
-  pub record Agrees (o p : List ℕ) (s : S) : Type 0 where
-    pub states : run step o s ≡ run step p s
-    pub replies : (i : ℕ) → replyIn step reply o s i ≡ replyIn step reply p s i
-
-  agrees-trans : {o p q : List ℕ} {s : S} → Agrees o p s → Agrees p q s → Agrees o q s
+  agrees-trans : {o p q : List ℕ} {s : S} → Agrees step reply o p s → Agrees step reply p q s → Agrees step reply o q s
   agrees-trans g h = record { states = g .states ∙ h .states; replies = λ i. g .replies i ∙ h .replies i }
 
-  agrees-cons : (x : ℕ) {o p : List ℕ} {s : S} → Agrees o p (step x s) → Agrees (x ∷ o) (x ∷ p) s
+  agrees-cons : (x : ℕ) {o p : List ℕ} {s : S} → Agrees step reply o p (step x s) → Agrees step reply (x ∷ o) (x ∷ p) s
   agrees-cons x {s = s} g = record { states = g .states; replies = λ i. ap (λ r. cond (eqb i x) (some (reply x s)) r) (g .replies i) }
 
   -- the first two change places
-  swapped : (y x : ℕ) (l : List ℕ) (s : S) → Good s → y < x → Independent y x → Agrees (x ∷ y ∷ l) (y ∷ x ∷ l) s
+  swapped : (y x : ℕ) (l : List ℕ) (s : S) → Good s → y < x → Independent step reply Good y x → Agrees step reply (x ∷ y ∷ l) (y ∷ x ∷ l) s
   swapped y x l s g h d = record {
     states = ap (run step l) (sym (d .states s g));
     replies = λ i. rw (d .first s g, d .second s g, d .states s g)
@@ -71,18 +60,18 @@ module _ {S : Type 0} {A : Type 0} (step : ℕ → S → S) (reply : ℕ → S �
         (λ u v. let p = eqb-true i x u in let q = eqb-true i y v in omega arith));
   }
 
-  moved : (x : ℕ) (l : List ℕ) (s : S) → Good s → All (λ y. y < x → Independent y x) l → Agrees (x ∷ l) (arrange x l) s
+  moved : (x : ℕ) (l : List ℕ) (s : S) → Good s → All (λ y. y < x → Independent step reply Good y x) l → Agrees step reply (x ∷ l) (arrange x l) s
   moved x [] s g k = record { states = refl; replies = λ i. refl }
   moved x (y ∷ l) s g k = go (ltb y x) refl (moved x l (step y s) (good y s g) (k .1))
     where
-      go : (b : Bool) → ltb y x ≡ b → Agrees (x ∷ l) (arrange x l) (step y s) → Agrees (x ∷ y ∷ l) (cond b (y ∷ arrange x l) (x ∷ y ∷ l)) s
+      go : (b : Bool) → ltb y x ≡ b → Agrees step reply (x ∷ l) (arrange x l) (step y s) → Agrees step reply (x ∷ y ∷ l) (cond b (y ∷ arrange x l) (x ∷ y ∷ l)) s
       go true e ih = agrees-trans (swapped y x l s g (ltb-true y x e) (k .0 (ltb-true y x e))) (agrees-cons y ih)
       go false e ih = record { states = refl; replies = λ i. refl }
 
-  sorted-agrees : (o : List ℕ) → Kept o → (s : S) → Good s → Agrees o (sort o) s
+  sorted-agrees : (o : List ℕ) → Kept o → (s : S) → Good s → Agrees step reply o (sort o) s
   sorted-agrees [] k s g = record { states = refl; replies = λ i. refl }
   sorted-agrees (x ∷ o) k s g = agrees-trans (agrees-cons x (sorted-agrees o (k .1) (step x s) (good x s g)))
-      (moved x (sort o) s g (all-sort (λ y. y < x → Independent y x) o (k .0)))
+      (moved x (sort o) s g (all-sort (λ y. y < x → Independent step reply Good y x) o (k .0)))
 
 -- an order of 0 .. n-1, sorted, is the recorded order
 arrange-comm : (x y : ℕ) (l : List ℕ) → arrange x (arrange y l) ≡ arrange y (arrange x l)
@@ -248,21 +237,21 @@ all-has P [] h = tt
 all-has P (x ∷ o) h = (h x (rw (eq-eqb x x refl) refl), all-has P o (λ y e. h y (rw e (or-true (eqb y x)))))
 
 module _ {S : Type 0} {A : Type 0} (step : ℕ → S → S) (reply : ℕ → S → A) (Good : S → Type 0) (good : (i : ℕ) (s : S) → Good s → Good (step i s)) where
-  kept-of : (o : List ℕ) → ((y x : ℕ) → y < x → stands x y o ≡ true → Independent step reply Good good y x) → Kept step reply Good good o
+  kept-of : (o : List ℕ) → ((y x : ℕ) → y < x → stands x y o ≡ true → Independent step reply Good y x) → Kept step reply Good good o
   kept-of [] h = tt
   kept-of (x ∷ o) h = (
-    all-has (λ y. y < x → Independent step reply Good good y x) o (λ y e l. h y x l (rw (eq-eqb x x refl, e) refl)),
+    all-has (λ y. y < x → Independent step reply Good y x) o (λ y e l. h y x l (rw (eq-eqb x x refl, e) refl)),
     kept-of o (λ y z l e. h y z l (rw e (or-true (eqb z x && has y o)))),
   )
 
   -- an order that has each dependent pair in recorded order agrees with the recorded order
   pub order-agrees : (n : ℕ) (o : List ℕ) → IsOrderOf n o → (dependent : ℕ → ℕ → Bool)
-      → ((i j : ℕ) → i < j → j < n → dependent i j ≡ false → Independent step reply Good good i j)
+      → ((i j : ℕ) → i < j → j < n → dependent i j ≡ false → Independent step reply Good i j)
       → ((i j : ℕ) → i < j → j < n → dependent i j ≡ true → stands i j o ≡ true)
-      → (s : S) → Good s → Agrees step reply Good good o (from 0 n) s
+      → (s : S) → Good s → Agrees step reply o (from 0 n) s
   order-agrees n o p dependent free kept s g = rw (← sort-order n o p) (sorted-agrees step reply Good good o (kept-of o between) s g)
     where
-      between : (y x : ℕ) → y < x → stands x y o ≡ true → Independent step reply Good good y x
+      between : (y x : ℕ) → y < x → stands x y o ≡ true → Independent step reply Good y x
       between y x l e =
           let b = in-range p x (stands-has x y o e .0) in
           split (dependent y x)

@@ -34,3 +34,15 @@ stands i j (x ∷ o) = (eqb i x && has j o) || stands i j o
 pub record IsOrderOf (n : ℕ) (o : List ℕ) : Type 0 where
   pub size : length o ≡ n
   pub full : (i : ℕ) → i < n → has i o ≡ true
+
+module _ {S : Type 0} {A : Type 0} (step : ℕ → S → S) (reply : ℕ → S → A) where
+  -- two events may change places in every good state
+  pub record Independent (Good : S → Type 0) (i j : ℕ) : Type 0 where
+    pub states : (s : S) → Good s → step j (step i s) ≡ step i (step j s)
+    pub first : (s : S) → Good s → reply i (step j s) ≡ reply i s
+    pub second : (s : S) → Good s → reply j (step i s) ≡ reply j s
+
+  -- two orders agree from a state: they leave the same state, and each event has the same reply
+  pub record Agrees (o p : List ℕ) (s : S) : Type 0 where
+    pub states : run step o s ≡ run step p s
+    pub replies : (i : ℕ) → replyIn step reply o s i ≡ replyIn step reply p s i

@@ -3,8 +3,9 @@ use mathlib.Core.Path.{_≡_, refl, sym, _∙_, ap}
 use mathlib.Core.Logic.{_↔_}
 use mathlib.Core.Bool.{true, false≢true}
 use Prim.Native.Nat.{ℕ}
-use Rattle.flow.specs.Entries.{orderOf, thenBy, keyOrder, isEqual}
-use Rattle.flow.proofs.Orders.{IsOrder, opposite, rising, in-turn}
+use Rattle.flow.specs.Entries.{keyOrder, isEqual}
+use Rattle.flow.specs.Orders.{orderOf, thenBy, IsOrder, opposite}
+use Rattle.flow.proofs.Orders.{rising, in-turn}
 use Rattle.flow.proofs.Entries.{key-order}
 use Rattle.rows.specs.Types.{Key, Ordering, Row}
 use Rattle.rows.specs.Rows.{rowOrder, sameSlot}

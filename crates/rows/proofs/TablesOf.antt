@@ -9,7 +9,8 @@ use Prim.Native.Nat.{ℕ}
 use native.Mathlib.Omega.{arith}
 use lib.Dec.{eqb}
 use borrow.Author.Tests.{eqb-true, eq-eqb}
-use Rattle.flow.specs.Entries.{thenBy, keyOrder, sameKey}
+use Rattle.flow.specs.Entries.{keyOrder, sameKey}
+use Rattle.flow.specs.Orders.{thenBy}
 use Rattle.basics.proofs.Booleans.{split, and-left, and-right, cond-same, cond-swap}
 use Rattle.flow.proofs.Orders.{number-equal}
 use Rattle.flow.proofs.Entries.{same-eq}

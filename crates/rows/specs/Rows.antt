@@ -6,7 +6,8 @@ use mathlib.Core.List.{List, [], _∷_}
 use Prim.Native.Nat.{ℕ}
 use lib.Dec.{eqb}
 use lib.ListN.{take}
-use Rattle.flow.specs.Entries.{orderOf, thenBy, keyOrder, isEqual, sameKey}
+use Rattle.flow.specs.Entries.{keyOrder, isEqual, sameKey}
+use Rattle.flow.specs.Orders.{orderOf, thenBy}
 use Rattle.flow_table.specs.FlowTable.{Table, inside, clash, admits}
 use Rattle.flow_table.specs.Switches.{Tables}
 use Rattle.rows.specs.Types.{Action, Key, Entry, Ordering, Row, Rows, Filter}

@@ -1,4 +1,4 @@
-use Rattle.flow.specs.Entries.{thenBy, orderOf}
+use Rattle.flow.specs.Orders.{thenBy, orderOf}
 use borrow.Author.Tests.{lt-ltb, le-ltb}
 use Rattle.flow.proofs.ordering.order_of.Statement.{statement}
 use Rattle.flow.proofs.ordering.order_of.Tie as tie

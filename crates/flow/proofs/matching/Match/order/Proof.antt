@@ -1,5 +1,6 @@
 use mathlib.Core.Path.{_∙_, ap}
-use Rattle.flow.specs.Entries.{thenBy, matchOrder, rank}
+use Rattle.flow.specs.Entries.{matchOrder, rank}
+use Rattle.flow.specs.Orders.{thenBy}
 use borrow.Author.Needs.{needs}
 use Rattle.flow.proofs.matching.Match.order.Statement.{statement}
 use Rattle.flow.proofs.matching.Match.order.Tie as tie

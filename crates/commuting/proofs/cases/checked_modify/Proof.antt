@@ -1,7 +1,7 @@
 use Rattle.basics.proofs.Booleans.{was}
 use borrow.Author.Needs.{needs}
-use Rattle.commuting.proofs.rows.checked_modify.Statement.{statement}
-use Rattle.commuting.proofs.rows.checked_modify.Tie as tie
+use Rattle.commuting.proofs.cases.checked_modify.Statement.{statement}
+use Rattle.commuting.proofs.cases.checked_modify.Tie as tie
 
 returns : tie.Need-returns
 returns c = rw (was (c .before .within .ensures) (c .if1 .taken))

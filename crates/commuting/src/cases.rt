@@ -26,7 +26,7 @@ pub fn add_add(d: Entry, e: Entry) -> bool
 pub fn add_delete_strict(d: Entry, k: Key) -> bool
     ensures { λ r. ⌜ r ≡ add-dels (d .key) k ⌝ }
 {
-    !k.same(d.key)
+    !d.key.same(k)
 }
 
 pub fn add_delete(d: Entry, m: Match) -> bool

@@ -16,7 +16,7 @@ use Rattle.basics.specs.Searches.{anyBelow}
 use Rattle.trace_events.specs.Precedence.{precedes}
 use Rattle.basics.proofs.Searches.{any-same, any-found, any-at}
 use Rattle.happens_before.specs.Types.{Event}
-use Rattle.happens_before.specs.Causality.{step, Chain, link, onward, reaches, before}
+use Rattle.happens_before.specs.Causality.{step, Chain, link, onward, reaches, before, through}
 
 module _ (d : ℕ → ℕ → Bool) where
   -- more steps than j are not needed to reach j

@@ -16,9 +16,13 @@ use Rattle.trace_events.specs.Precedence.{precedes}
 use Rattle.trace_events.proofs.TraceLaws.{length-events, event-at}
 use Rattle.happens_before.specs.Types.{Event, Trace}
 use Rattle.happens_before.specs.Causality.{step, before, through}
-use Rattle.happens_before.specs.Rows.{member, noMembers, bit, Filled, HappensBefore}
+use Rattle.happens_before.specs.Rows.{member, noMembers, bit, HappensBefore}
 use Rattle.happens_before.proofs.Chains.{before-end}
 use Rattle.happens_before.proofs.SetLaws.{member-none, member-nil}
+
+-- the rows of the events below n are filled, and the others are empty
+abbrev pub Filled : List Event → ℕ → List (List ℕ) → Type 0
+Filled es n rows = (i j : ℕ) → bit rows i j ≡ (ltb j n && before es i j)
 
 -- a step between two lines of a trace, as its array holds them
 pub step-at : (t : Trace) → t .len ≤ length (t .events) → (i j : ℕ) → i < j → j < t .len

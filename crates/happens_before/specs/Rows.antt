@@ -24,10 +24,6 @@ noMembers = 0 ∷ 0 ∷ 0 ∷ 0 ∷ []
 unfoldable pub bit : List (List ℕ) → ℕ → ℕ → Bool
 bit rows i j = member (getD rows j []) i
 
--- the rows of the events below n are filled, and the others are empty
-abbrev pub Filled : List Event → ℕ → List (List ℕ) → Type 0
-Filled es n rows = (i j : ℕ) → bit rows i j ≡ (ltb j n && before es i j)
-
 -- the rows hold happens-before
 abbrev pub HappensBefore : List Event → List (List ℕ) → Type 0
 HappensBefore es rows = (i j : ℕ) → bit rows i j ≡ before es i j

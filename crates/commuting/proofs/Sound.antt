@@ -11,7 +11,7 @@ use Rattle.flow.proofs.Field.{within-self, overlap-sym, within-overlap, overlap
 use Rattle.flow.proofs.Matches.{match-field}
 use Rattle.flow.proofs.Entries.{same-eq, differ, differ-of, action-eq, same-sym}
 use Rattle.flow_table.specs.FlowTable.{Table, Sorted, get, insert, removeIf, assignIf, anyOf, overwrite, fitting, best, Effect, pkt, add, addc, modn, dels, deln, idle, after, answer, inside, clash, admits}
-use Rattle.flow_table.proofs.TableLaws.{sorted-insert, sorted-remove, sorted-assign, get-insert, get-remove, get-assign, any-insert, any-assign, any-remove, any-none, table-ext}
+use Rattle.flow_table.proofs.TableLaws.{sorted-insert, sorted-remove, sorted-assign, get-insert, get-remove, get-assign, any-insert, any-assign, any-remove, none-passes, table-ext}
 use Rattle.flow_table.proofs.Effects.{addc-no, addc-yes, modn-yes, modn-no, sorted-after}
 use Rattle.commuting.specs.Types.{Match, Packet, Action, Key, Answer}
 use Rattle.commuting.specs.Commuting.{Agree, add-add, add-dels, add-deln, add-modn, addc-other, addc-modn, modn-dels, modn-modn, commutes}
@@ -79,7 +79,7 @@ assign-idle : (p : Key → Bool) (a : Action) (t : Table) → Sorted t → anyOf
 assign-idle p a t s h = table-ext (assignIf p a t) t (sorted-assign p a t s) s (λ i. simp get-assign (at (p i) refl))
   where
     at : {i : Key} (x : Bool) → p i ≡ x → cond x (overwrite a (get i t)) (get i t) ≡ get i t
-    at {i} true e = rw (any-none p t h i e) refl
+    at {i} true e = rw (none-passes p t h i e) refl
     at {i} false e = refl
 
 insert-twice : (k : Key) (a : Action) (t : Table) → Sorted t → insert k a (insert k a t) ≡ insert k a t
@@ -120,8 +120,8 @@ pub apart : (p : Key → Bool) (j k : Key) → p j ≡ false → p k ≡ true �
 apart p j k u v = differ-of j k (λ e. true≢false (sym v ∙ ap p (sym e) ∙ u))
 
 -- nothing overlaps a match and lies within one that doesn't overlap it
-pub not-both : (m n : Match) → overlaps m n ≡ false → (i : Key) → overlaps m (i .pattern) ≡ true → inside n i ≡ true → ⊥
-not-both m n h i u v = true≢false (sym (overlap-up match-field m (i .pattern) n v u) ∙ h)
+pub not-in-both : (m n : Match) → overlaps m n ≡ false → (i : Key) → overlaps m (i .pattern) ≡ true → inside n i ≡ true → ⊥
+not-in-both m n h i u v = true≢false (sym (overlap-up match-field m (i .pattern) n v u) ∙ h)
 
 pub outside : (m n : Match) → overlaps m n ≡ false → within m n ≡ false
 outside m n h = split (within m n) (λ e. absurd (true≢false (sym (within-overlap match-field m n e) ∙ h))) (λ e. e)
@@ -252,7 +252,7 @@ module _ (t : Table) (s : Sorted t) where
   addc-deln-agree : (j : Key) (a : Action) (m : Match) → overlaps (j .pattern) m ≡ false → Agree (addc j a) (deln m) t
   unfolding after answer
   addc-deln-agree j a m h = addc-agree j a (deln m) t
-      (any-remove (clash j) (inside m) (λ i u v. not-both (j .pattern) m h i (and-right (eqb (j .priority) (i .priority)) (overlaps (j .pattern) (i .pattern)) u) v) t)
+      (any-remove (clash j) (inside m) (λ i u v. not-in-both (j .pattern) m h i (and-right (eqb (j .priority) (i .priority)) (overlaps (j .pattern) (i .pattern)) u) v) t)
       (λ e. record { tables = insert-remove j a (inside m) (outside (j .pattern) m h) t s; first = refl; second = refl })
 
   modn-dels-agree : (j : Key) (a : Action) (k : Key) → modn-dels j k ≡ true → Agree (modn j a) (dels k) t
@@ -265,7 +265,7 @@ module _ (t : Table) (s : Sorted t) where
   modn-deln-agree : (j : Key) (a : Action) (m : Match) → overlaps (j .pattern) m ≡ false → Agree (modn j a) (deln m) t
   unfolding after answer
   modn-deln-agree j a m h =
-      modn-agree j a (deln m) t (any-remove (inside (j .pattern)) (inside m) (λ i u v. not-both (j .pattern) m h i (inside-overlap (j .pattern) i u) v) t)
+      modn-agree j a (deln m) t (any-remove (inside (j .pattern)) (inside m) (λ i u v. not-in-both (j .pattern) m h i (inside-overlap (j .pattern) i u) v) t)
       (assign-remove (inside (j .pattern)) (inside m) a t s) refl
       (λ e. record { tables = insert-remove j a (inside m) (outside (j .pattern) m h) t s; first = refl; second = refl })
 
@@ -300,7 +300,7 @@ module _ (t : Table) (s : Sorted t) where
       clear e =
           let o = not-true (overlaps (j .pattern) (k .pattern)) e in
           modn-modn-apart j a k b (outside (j .pattern) (k .pattern) o) (outside (k .pattern) (j .pattern) (overlap-false (j .pattern) (k .pattern) o))
-          (λ i u v. absurd (not-both (j .pattern) (k .pattern) o i (inside-overlap (j .pattern) i u) v))
+          (λ i u v. absurd (not-in-both (j .pattern) (k .pattern) o i (inside-overlap (j .pattern) i u) v))
 
       equal : (sameAction a b && (not (inside (k .pattern) j) && not (inside (j .pattern) k))) ≡ true → Agree (modn j a) (modn k b) t
       equal e =

@@ -138,9 +138,9 @@ any-remove p q h (e ∷ t) = go (q (e .key)) refl (p (e .key)) refl (any-remove 
     go false u d v ih = rw (v, ih) refl
 
 -- no entry passes the test: nothing is found at a key that does
-pub any-none : (p : Key → Bool) (t : Table) → anyOf p t ≡ false → (k : Key) → p k ≡ true → get k t ≡ none
-any-none p [] h k e = refl
-any-none p (d ∷ t) h k e = go (p (d .key)) refl (sameKey k (d .key)) refl h (λ g. any-none p t g k e)
+pub none-passes : (p : Key → Bool) (t : Table) → anyOf p t ≡ false → (k : Key) → p k ≡ true → get k t ≡ none
+none-passes p [] h k e = refl
+none-passes p (d ∷ t) h k e = go (p (d .key)) refl (sameKey k (d .key)) refl h (λ g. none-passes p t g k e)
   where
     go : (b : Bool) → p (d .key) ≡ b → (c : Bool) → sameKey k (d .key) ≡ c → (b || anyOf p t) ≡ false → (anyOf p t ≡ false → get k t ≡ none)
         → cond c (some (d .action)) (get k t) ≡ none

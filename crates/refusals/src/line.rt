@@ -28,5 +28,5 @@ pub fn refused_line<'a>(trace: &'a [u8], tables: &'a [u8], refusal: Refusal) -> 
     let returned = refusal.returned();
     let source = returned.source;
     let text = text_in(source, trace, tables);
-    text_lines::line_at(text, returned.place)
+    text_lines::nth_line(text, returned.place)
 }

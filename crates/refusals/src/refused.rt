@@ -34,7 +34,7 @@ impl Refused {
         let source = returned.source;
         let text = text_in(source, trace, tables);
         let start = text_lines::line_start(text, place);
-        let line = text_lines::line_at(text, place);
+        let line = text_lines::nth_line(text, place);
         let length = line.len();
         Refused {
             number,

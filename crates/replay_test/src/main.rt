@@ -92,7 +92,7 @@ fn replay_recorded<'a>(trace: &'a [u8], tables: &'a [u8]) {
 fn replay_line<'a>(trace: &'a [u8], tables: &'a [u8], orders: &[u8], k: usize) {
     program_output::field(b"order ", k as u64);
     program_output::end_line();
-    replay_order(trace, tables, text_lines::line_at(orders, k));
+    replay_order(trace, tables, text_lines::nth_line(orders, k));
 }
 
 fn replay_lines<'a>(trace: &'a [u8], tables: &'a [u8], orders: &[u8]) {

@@ -11,7 +11,7 @@ use Rattle.text_numbers.proofs.Format.{Follows, Format, space-ends, keyed-forma
 use Rattle.flow.specs.Matches.{PacketInRange}
 use Rattle.text_fields.specs.Types.{Match, Packet}
 use Rattle.text_fields.specs.Print.{printLast, printSix, printMatch, printPacket}
-use Rattle.text_fields.specs.Read.{readLast, readSix, matchOf, packetOf, readMatch, readPacket}
+use Rattle.text_fields.specs.Read.{readLast, readSix, matchFrom, packetFrom, readMatch, readPacket}
 use Rattle.text_fields.specs.Written.{MatchWritten}
 use Rattle.text_fields.proofs.FieldFormats.{exact-format, prefix-format}
 
@@ -42,7 +42,7 @@ module _ {N A : Type 0} {okN : ℕ → N → Type 0} {okA : A → Type 0} {numbe
 pub match-format : Format MatchWritten printMatch readMatch
 unfolding printMatch readMatch
 match-format =
-    along (λ (m : Match). (m .port, (m .src, (m .dst, (m .proto, (m .sport, m .dport)))))) matchOf
+    along (λ (m : Match). (m .port, (m .src, (m .dst, (m .proto, (m .sport, m .dport)))))) matchFrom
     (λ m o. ((o .port, (o .src, (o .dst, (o .proto, (o .sport, o .dport))))), refl))
     (λ f (port, (src, (dst, (proto, (sport, dport))))). (record { port = port; src = src; dst = dst; proto = proto; sport = sport; dport = dport }, refl))
     (six-format exact-format prefix-format)
@@ -50,7 +50,7 @@ match-format =
 pub packet-format : Format PacketInRange printPacket readPacket
 unfolding printPacket readPacket
 packet-format =
-    along (λ (p : Packet). (p .port, (p .src, (p .dst, (p .proto, (p .sport, p .dport)))))) packetOf
+    along (λ (p : Packet). (p .port, (p .src, (p .dst, (p .proto, (p .sport, p .dport)))))) packetFrom
     (λ p o. ((omega arith, (o .src, (o .dst, (omega arith, (omega arith, omega arith))))), refl))
     (λ f (port, (src, (dst, (proto, (sport, dport))))). (record { port = omega arith; src = src; dst = dst; proto = omega arith; sport = omega arith; dport = omega arith }, refl))
     (six-format number-format hex-format)

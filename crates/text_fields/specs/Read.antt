@@ -23,18 +23,18 @@ readLast number = both (keyed (bytes " proto=") (number 255)) (both (keyed (byte
 unfoldable pub readSix : {N A : Type 0} → (ℕ → Reader N) → Reader A → Reader (N × (A × (A × (N × (N × N)))))
 readSix number address = both (keyed (bytes " port=") (number 65535)) (both (keyed (bytes " src=") address) (both (keyed (bytes " dst=") address) (readLast number)))
 
-abbrev pub matchOf : Exact × (Prefix × (Prefix × (Exact × (Exact × Exact)))) → Match
-matchOf (port, (src, (dst, (proto, (sport, dport))))) = record { port = port; src = src; dst = dst; proto = proto; sport = sport; dport = dport }
+abbrev pub matchFrom : Exact × (Prefix × (Prefix × (Exact × (Exact × Exact)))) → Match
+matchFrom (port, (src, (dst, (proto, (sport, dport))))) = record { port = port; src = src; dst = dst; proto = proto; sport = sport; dport = dport }
 
 unfoldable pub readMatch : Reader Match
-readMatch = mapped matchOf (readSix readExact readPrefix)
+readMatch = mapped matchFrom (readSix readExact readPrefix)
 
-abbrev pub packetOf : ℕ × (ℕ × (ℕ × (ℕ × (ℕ × ℕ)))) → Packet
-packetOf (port, (src, (dst, (proto, (sport, dport))))) = record { port = port; src = src; dst = dst; proto = proto; sport = sport; dport = dport }
+abbrev pub packetFrom : ℕ × (ℕ × (ℕ × (ℕ × (ℕ × ℕ)))) → Packet
+packetFrom (port, (src, (dst, (proto, (sport, dport))))) = record { port = port; src = src; dst = dst; proto = proto; sport = sport; dport = dport }
 
 -- all exact
 unfoldable pub readPacket : Reader Packet
-readPacket = mapped packetOf (readSix readNumber readHex)
+readPacket = mapped packetFrom (readSix readNumber readHex)
 
 -- `drop`, `ctl` or `pN`
 unfoldable pub readAction : Reader Action

@@ -14,7 +14,7 @@ use text_numbers::number_at;
 ghost use mathlib.Core.Path.{_≡_};
 ghost use Rattle.text_numbers.specs.Number.{readNumber};
 ghost use Rattle.text_numbers.specs.Reading.{mapped};
-ghost use Rattle.text_fields.specs.Read.{readExact, readLast, matchOf, packetOf, readMatch, readPacket, asMatch, asPacket};
+ghost use Rattle.text_fields.specs.Read.{readExact, readLast, matchFrom, packetFrom, readMatch, readPacket, asMatch, asPacket};
 
 // A match that was read and the place after it, or no match.
 pub enum MatchRead {
@@ -46,7 +46,7 @@ pub fn match_at(s: &[u8], at: usize) -> MatchRead
 
 // The last three fields of a match, behind the first three.
 fn match_behind(s: &[u8], at: usize, port: Exact, src: Prefix, dst: Prefix) -> MatchRead
-    ensures { λ r. ⌜ asMatch r ≡ mapped (λ p. matchOf (port, (src, (dst, p)))) (readLast readExact) (now (s .entry)) at ⌝ }
+    ensures { λ r. ⌜ asMatch r ≡ mapped (λ p. matchFrom (port, (src, (dst, p)))) (readLast readExact) (now (s .entry)) at ⌝ }
 {
     let ExactRead::Read { value: proto, next } = exact_at(s, at, b" proto=", 255) else {
         return MatchRead::Bad;
@@ -86,7 +86,7 @@ pub fn packet_at(s: &[u8], at: usize) -> PacketRead
 
 // The last three fields of a packet, behind the first three.
 fn packet_behind(s: &[u8], at: usize, port: u16, src: u32, dst: u32) -> PacketRead
-    ensures { λ r. ⌜ asPacket r ≡ mapped (λ p. packetOf (port, (src, (dst, p)))) (readLast readNumber) (now (s .entry)) at ⌝ }
+    ensures { λ r. ⌜ asPacket r ≡ mapped (λ p. packetFrom (port, (src, (dst, p)))) (readLast readNumber) (now (s .entry)) at ⌝ }
 {
     let Number::Read { value: proto, next } = number_at(s, at, b" proto=", 255) else {
         return PacketRead::Bad;

@@ -95,7 +95,7 @@ pub fn line_start(text: &[u8], number: usize) -> usize
 }
 
 // The line of that number, as a part of the text; empty where there is none.
-pub fn line_at(text: &[u8], number: usize) -> &[u8]
+pub fn nth_line(text: &[u8], number: usize) -> &[u8]
     ensures { λ r. ⌜ now r ≡ getD (lines (now (text .entry))) number [] ⌝ }
 {
     let at = line_start(text, number);

@@ -6,7 +6,7 @@ use Rattle.refusals.proofs.refused.Refused.from.Tie as tie
 
 returns : tie.Need-returns
 unfolding refusedAs startOf lineOf
-returns c = rw (c .line-at .ensures, c .before .line-start .ensures, c .before .before .text-in .ensures, c .before .before .before .before .returned .ensures)
+returns c = rw (c .nth-line .ensures, c .before .line-start .ensures, c .before .before .text-in .ensures, c .before .before .before .before .returned .ensures)
 
 pub from-spec : {M : Type 1} → statement M
 from-spec = tie.close (tie.spec (λ c κs. search needs) (λ c. search needs) (λ c κs. search needs) (λ c κs. search needs) (λ c κs. search needs) returns)

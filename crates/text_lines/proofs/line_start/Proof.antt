@@ -25,7 +25,10 @@ returns c = sym (c .before .before .loop .inv ∙ start-none _ _ _ (c .if1 .take
 
 -- the place after a line fits
 room : (c : tie.After-line-length Inv-loop μ-loop) → c .before .before .before .before .loop .at + c .line-length .result ≤ length (now (c .before .before .before .before .before .before .args .text))
-room c = start-room (now (c .before .before .before .before .before .before .args .text)) _ _ _ (c .before .before .if1 .left) (c .before .rest .ensures) (c .line-length .ensures)
+room c =
+    let at-if1 = c .before .before in
+    let at-start = at-if1 .before .before .before .before in
+    start-room (now (at-start .args .text)) _ _ _ (at-if1 .if1 .left) (c .before .rest .ensures) (c .line-length .ensures)
 
 loop-again : tie.Need-loop-again Inv-loop μ-loop
 loop-again c =

@@ -22,13 +22,18 @@ unfolding answersText
 loop-holds c = (omega arith, search (needs, length-mapped), refl, refl)
 
 put-answer-requires : tie.Need-put-answer-requires Inv-loop μ-loop
-put-answer-requires c κs = omega (arith, text-length (keptAt (c .before .before .before .before .args .t1)) (c .before .before .before .loop .i))
+put-answer-requires c κs =
+    let at-loop = c .before .before .before in
+    let at-start = at-loop .before in
+    omega (arith, text-length (keptAt (at-start .args .t1)) (at-loop .loop .i))
 
 loop-again : tie.Need-loop-again Inv-loop μ-loop
 loop-again c =
-    let l = c .before .before .before .before .before .loop in
+    let at-loop = c .before .before .before .before .before in
+    let at-start = at-loop .before in
+    let l = at-loop .loop in
     let put = c .before .put-answer in
-    (omega arith, l .inv .1, put .kept .0 ∙ l .inv .2, counted (keptAt (c .before .before .before .before .before .before .args .t1)) (l .i) (l .at) (put .result) refl (l .inv .3) (put .ensures .after))
+    (omega arith, l .inv .1, put .kept .0 ∙ l .inv .2, counted (keptAt (at-start .args .t1)) (l .i) (l .at) (put .result) refl (l .inv .3) (put .ensures .after))
 
 returns : tie.Need-returns Inv-loop μ-loop
 returns c =

@@ -5,10 +5,16 @@ use Rattle.replay_answers.proofs.answers.append_answer.Statement.{state
 use Rattle.replay_answers.proofs.answers.append_answer.Tie as tie
 
 add-result : tie.Need-add-result
-add-result c = omega (arith, c .before .before .put-answer .ensures .after, answer-length (c .before .before .before .before .before .args .ev) (c .before .before .before .before .before .args .answer))
+add-result c =
+    let at-put-answer = c .before .before in
+    let at-start = at-put-answer .before .before .before in
+    omega (arith, at-put-answer .put-answer .ensures .after, answer-length (at-start .args .ev) (at-start .args .answer))
 
 returns : tie.Need-returns
-returns c = put-rest _ _ _ _ _ (c .before .before .before .before .before .pre .0) (c .before .before .put-answer .ensures)
+returns c =
+    let at-put-answer = c .before .before in
+    let at-start = at-put-answer .before .before .before in
+    put-rest _ _ _ _ _ (at-start .pre .0) (at-put-answer .put-answer .ensures)
 
 pub append-answer-spec : {M : Type 1} → statement M
 append-answer-spec =

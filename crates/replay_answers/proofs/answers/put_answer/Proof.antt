@@ -10,17 +10,32 @@ returns : tie.Need-returns
 returns c = rw (no-line _ _ (sym (c .before .is-silent .ensures) ∙ c .if1 .taken)) (put-none _ _)
 
 put-item-requires : tie.Need-put-item-requires
-put-item-requires c κs = omega (arith, c .before .before .before .put-number .ensures .after, c .before .before .before .before .before .before .before .put-bytes .ensures .after, print-length (c .before .before .before .before .before .before .before .before .before .before .before .before .before .args .ev))
+put-item-requires c κs =
+    let at-put-number = c .before .before .before in
+    let at-put-bytes = at-put-number .before .before .before .before in
+    let at-start = at-put-bytes .before .before .before .before .before .before in
+    omega (arith, at-put-number .put-number .ensures .after, at-put-bytes .put-bytes .ensures .after, print-length (at-start .args .ev))
 
 put-bytes-requires-2 : tie.Need-put-bytes-requires-2
-put-bytes-requires-2 c κs = omega (arith, c .before .before .before .before .put-item .ensures .after, c .before .before .before .before .before .before .before .before .put-number .ensures .after, c .before .before .before .before .before .before .before .before .before .before .before .before .put-bytes .ensures .after, print-length (c .before .before .before .before .before .before .before .before .before .before .before .before .before .before .before .before .before .before .args .ev), item-length (c .before .before .before .before .before .before .before .before .before .before .before .before .before .before .before .before .before .before .args .answer))
+put-bytes-requires-2 c κs =
+    let at-put-item = c .before .before .before .before in
+    let at-put-number = at-put-item .before .before .before .before in
+    let at-put-bytes = at-put-number .before .before .before .before in
+    let at-start = at-put-bytes .before .before .before .before .before .before in
+    omega (arith, at-put-item .put-item .ensures .after, at-put-number .put-number .ensures .after, at-put-bytes .put-bytes .ensures .after, print-length (at-start .args .ev), item-length (at-start .args .answer))
 
 returns-2 : tie.Need-returns-2
 returns-2 c =
-    rw (line-of _ _ (sym (c .before .before .before .before .before .before .before .before .before .before .before .before .before .before .before .before .before .before .before .is-silent .ensures) ∙ c .before .before .before .before .before .before .before .before .before .before .before .before .before .before .before .before .before .before .if1 .left))
-    (put-then (c .before .before .before .before .before .before .before .before .before .before .before .before .before .before .before .put-bytes .ensures)
-    (put-then (c .before .before .before .before .before .before .before .before .before .before .before .put-number .ensures)
-    (put-then (c .before .before .before .before .before .before .before .put-item .ensures) (c .before .before .put-bytes2 .ensures))))
+    let at-put-bytes2 = c .before .before in
+    let at-put-item = at-put-bytes2 .before .before .before .before .before in
+    let at-put-number = at-put-item .before .before .before .before in
+    let at-put-bytes = at-put-number .before .before .before .before in
+    let at-if1 = at-put-bytes .before .before .before in
+    let at-is-silent = at-if1 .before in
+    rw (line-of _ _ (sym (at-is-silent .is-silent .ensures) ∙ at-if1 .if1 .left))
+    (put-then (at-put-bytes .put-bytes .ensures)
+    (put-then (at-put-number .put-number .ensures)
+    (put-then (at-put-item .put-item .ensures) (at-put-bytes2 .put-bytes2 .ensures))))
 
 pub put-answer-spec : {M : Type 1} → statement M
 put-answer-spec =

@@ -25,8 +25,10 @@ loop-holds c = (omega arith, search (needs, length-mapped), refl, put-none _ _)
 
 append-answer-requires : tie.Need-append-answer-requires Inv-loop μ-loop
 append-answer-requires c κs =
-    let l = c .before .before .before .loop in
-    let s = c .before .before .before .before .before in
+    let at-loop = c .before .before .before in
+    let at-place-5 = at-loop .before .before in
+    let l = at-loop .loop in
+    let s = at-place-5 in
     let n : l .i ≤ s .args .n = l .inv .0 in
     let f = keptAt (s .args .t2) in
     let h : l .at ≤ length (l .out) = omega (arith, l .inv .3 .after, l .inv .2, text-rises f (l .i) (s .args .n) n, s .pre .1) in
@@ -34,9 +36,12 @@ append-answer-requires c κs =
 
 loop-again : tie.Need-loop-again Inv-loop μ-loop
 loop-again c =
-    let l = c .before .before .before .before .before .before .loop in
-    let put = c .before .before .append-answer in
-    (omega arith, l .inv .1, put .kept .0 ∙ l .inv .2, line-put (keptAt (c .before .before .before .before .before .before .before .before .args .t2)) (l .i) (l .at) (put .result) refl (l .inv .3) (put .ensures))
+    let at-append-answer = c .before .before in
+    let at-loop = at-append-answer .before .before .before .before in
+    let at-start = at-loop .before .before in
+    let l = at-loop .loop in
+    let put = at-append-answer .append-answer in
+    (omega arith, l .inv .1, put .kept .0 ∙ l .inv .2, line-put (keptAt (at-start .args .t2)) (l .i) (l .at) (put .result) refl (l .inv .3) (put .ensures))
 
 same-length : tie.Need-same-length Inv-loop μ-loop
 same-length c = c .before .loop .inv .2

@@ -21,9 +21,11 @@ loop-holds c = (omega arith, refl, rw add-zero (put-none _ _))
 
 loop-again : tie.Need-loop-again Inv-loop μ-loop
 loop-again c =
-    let l = c .before .before .before .before .before in
+    let at-put-byte = c .before .before in
+    let at-place-5 = at-put-byte .before .before .before in
+    let l = at-place-5 in
     let i = l .before .loop .inv in
-    let b = c .before .before .put-byte in
+    let b = at-put-byte .put-byte in
     (omega arith, b .kept .0 ∙ i .1, put-more _ _ _ _ _ (i .2) _ (l .loop-test .taken) (b .ensures))
 
 same-length : tie.Need-same-length Inv-loop μ-loop

@@ -1,3 +1,5 @@
+-- A number is read as `readNumber` says: no digit, a zero that another digit follows, a lone zero, or the digits from the place on.
+-- Assumes nothing.
 use mathlib.Core.Bool.{true}
 use mathlib.Core.Path.{_≡_, sym, _∙_}
 use native.Mathlib.Omega.{arith}
@@ -16,20 +18,27 @@ digit c = tested isDigit (c .before .before .byte-at .ensures) (c .before .is-di
 
 add-next : tie.Need-add-next
 add-next c =
-    let a = c .before .before .before .before .before .args in
+    let at-start = c .before .before .before .before .before in
+    let a = at-start .args in
     omega (arith, digit-in (now (a .s)) (a .at) (digit (c .before)))
 
 returns : tie.Need-returns
 returns c =
-    let f = c .before .before .before .before in
-    sym (number-lead _ _ _ (digit f) (sym (f .before .before .byte-at .ensures) ∙ c .before .before .before .if2 .taken)
-    (tested isDigit (c .before .before .byte-at2 .ensures) (c .before .is-digit2 .ensures) (c .if3 .taken)))
+    let at-byte-at2 = c .before .before in
+    let at-if2 = at-byte-at2 .before in
+    let at-place-4 = at-if2 .before in
+    let f = at-place-4 in
+    sym (number-lead _ _ _ (digit f) (sym (f .before .before .byte-at .ensures) ∙ at-if2 .if2 .taken)
+    (tested isDigit (at-byte-at2 .byte-at2 .ensures) (c .before .is-digit2 .ensures) (c .if3 .taken)))
 
 returns-2 : tie.Need-returns-2
 returns-2 c =
-    let f = c .before .before .before .before in
-    sym (number-zero _ _ _ (digit f) (sym (f .before .before .byte-at .ensures) ∙ c .before .before .before .if2 .taken)
-    (tested isDigit (c .before .before .byte-at2 .ensures) (c .before .is-digit2 .ensures) (c .if3 .left)))
+    let at-byte-at2 = c .before .before in
+    let at-if2 = at-byte-at2 .before in
+    let at-place-4 = at-if2 .before in
+    let f = at-place-4 in
+    sym (number-zero _ _ _ (digit f) (sym (f .before .before .byte-at .ensures) ∙ at-if2 .if2 .taken)
+    (tested isDigit (at-byte-at2 .byte-at2 .ensures) (c .before .is-digit2 .ensures) (c .if3 .left)))
 
 returns-3 : tie.Need-returns-3
 returns-3 c =

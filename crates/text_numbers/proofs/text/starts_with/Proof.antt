@@ -6,7 +6,9 @@ use Rattle.text_numbers.proofs.text.starts_with.Statement.{statement}
 use Rattle.text_numbers.proofs.text.starts_with.Tie as tie
 
 returns : tie.Need-returns
-returns c = c .begins-with .ensures ∙ ap (startsWith (now (c .before .before .before .before .args .key))) (c .before .skip .ensures)
+returns c =
+    let at-start = c .before .before .before .before in
+    c .begins-with .ensures ∙ ap (startsWith (now (at-start .args .key))) (c .before .skip .ensures)
 
 pub starts-with-spec : {M : Type 1} → statement M
 starts-with-spec = tie.close (tie.spec (λ c κs. search needs) (λ c κs. search needs) returns)

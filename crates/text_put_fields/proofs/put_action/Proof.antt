@@ -22,8 +22,7 @@ returns-3 : tie.Need-returns-3
 unfolding printAction
 returns-3 c =
     let at-put-number = c .before .before in
-    let at-place-6 = at-put-number .before .before .before .before in
-    let out = at-place-6 in
+    let out = at-put-number .before .before .before .before in
     rw (out .before .before .before .before .a .given .1) (put-then (out .put-bytes3 .ensures) (at-put-number .put-number .ensures))
 
 pub put-action-spec : {M : Type 1} → statement M

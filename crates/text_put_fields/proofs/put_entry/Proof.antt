@@ -8,8 +8,7 @@ use Rattle.text_put_fields.proofs.put_entry.Tie as tie
 
 put-bytes-requires : tie.Need-put-bytes-requires
 put-bytes-requires c κs =
-    let at-place-4 = c .before .before .before .before in
-    let key = at-place-4 in
+    let key = c .before .before .before .before in
     omega (arith, key .put-key .ensures .after, key-length (key .before .before .before .before .args .e .key))
 
 put-action-requires : tie.Need-put-action-requires
@@ -22,8 +21,7 @@ returns : tie.Need-returns
 unfolding printEntry
 returns c =
     let at-put-action = c .before .before in
-    let at-place-6 = at-put-action .before .before .before .before in
-    let act = at-place-6 in
+    let act = at-put-action .before .before .before .before in
     put-then (act .before .before .before .before .before .put-key .ensures) (put-then (act .put-bytes .ensures) (at-put-action .put-action .ensures))
 
 pub put-entry-spec : {M : Type 1} → statement M

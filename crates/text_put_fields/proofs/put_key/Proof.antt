@@ -15,8 +15,7 @@ returns : tie.Need-returns
 unfolding printKey
 returns c =
     let at-put-match = c .before .before in
-    let at-place-6 = at-put-match .before .before .before .before in
-    let number = at-place-6 in
+    let number = at-put-match .before .before .before .before in
     put-then (put-then (number .before .before .before .before .before .put-bytes .ensures) (number .put-number .ensures)) (at-put-match .put-match .ensures)
 
 pub put-key-spec : {M : Type 1} → statement M

@@ -7,15 +7,13 @@ use Rattle.text_put_fields.proofs.put_prefix.Tie as tie
 
 put-bytes-requires-2 : tie.Need-put-bytes-requires-2
 put-bytes-requires-2 c κs =
-    let at-place-4 = c .before .before .before .before in
-    let hex = at-place-4 in
+    let hex = c .before .before .before .before in
     let key = hex .before .before .before .before in
     omega (arith, key .put-bytes .ensures .after, hex .put-hex .ensures .after, hex-length (key .before .before .before .before .args .p .value))
 
 put-number-requires : tie.Need-put-number-requires
 put-number-requires c κs =
-    let at-place-4 = c .before .before .before .before in
-    let slash = at-place-4 in
+    let slash = c .before .before .before .before in
     let hex = slash .before .before .before .before .before in
     let key = hex .before .before .before .before in
     omega (arith, key .put-bytes .ensures .after, hex .put-hex .ensures .after, slash .put-bytes2 .ensures .after, hex-length (key .before .before .before .before .args .p .value))
@@ -24,8 +22,7 @@ returns : tie.Need-returns
 unfolding printPrefix
 returns c =
     let at-put-number = c .before .before in
-    let at-place-7 = at-put-number .before .before .before .before .before in
-    let slash = at-place-7 in
+    let slash = at-put-number .before .before .before .before .before in
     let hex = slash .before .before .before .before .before in
     let key = hex .before .before .before .before in
     let p = key .before .before .before .before .args .p in (

@@ -36,8 +36,7 @@ loop2-holds c = (omega arith, λ i. member-none i)
 
 loop2-again : tie.Need-loop2-again Inv-loop2 μ-loop2 Inv-loop μ-loop
 loop2-again c =
-    let at-place-5 = c .before .before .before .before .before in
-    let l = at-place-5 in
+    let l = c .before .before .before .before .before in
     let o = l .before .before .before in
     let t = o .before .args .t1 in
     let k = l .loop2 .k in
@@ -50,9 +49,8 @@ loop2-again c =
 
 loop-again : tie.Need-loop-again Inv-loop2 μ-loop2 Inv-loop μ-loop
 loop-again c =
-    let at-place-4 = c .before .before .before .before in
+    let o = c .before .before .before .before in
     let i2 = c .before .loop2 in
-    let o = at-place-4 in
     let e : i2 .k ≡ o .loop .j = omega arith in (
       omega arith,
       o .loop .inv .1,

@@ -26,9 +26,8 @@ loop-holds c = (omega arith, search (needs, length-mapped), refl, put-none _ _)
 append-answer-requires : tie.Need-append-answer-requires Inv-loop μ-loop
 append-answer-requires c κs =
     let at-loop = c .before .before .before in
-    let at-place-5 = at-loop .before .before in
+    let s = at-loop .before .before in
     let l = at-loop .loop in
-    let s = at-place-5 in
     let n : l .i ≤ s .args .n = l .inv .0 in
     let f = keptAt (s .args .t2) in
     let h : l .at ≤ length (l .out) = omega (arith, l .inv .3 .after, l .inv .2, text-rises f (l .i) (s .args .n) n, s .pre .1) in

@@ -22,8 +22,7 @@ loop-holds c = (omega arith, refl, rw add-zero (put-none _ _))
 loop-again : tie.Need-loop-again Inv-loop μ-loop
 loop-again c =
     let at-put-byte = c .before .before in
-    let at-place-5 = at-put-byte .before .before .before in
-    let l = at-place-5 in
+    let l = at-put-byte .before .before .before in
     let i = l .before .loop .inv in
     let b = at-put-byte .put-byte in
     (omega arith, b .kept .0 ∙ i .1, put-more _ _ _ _ _ (i .2) _ (l .loop-test .taken) (b .ensures))

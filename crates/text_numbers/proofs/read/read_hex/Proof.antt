@@ -43,8 +43,7 @@ add-v c = omega (arith, fits c)
 
 add-n : tie.Need-add-n Inv-loop μ-loop
 add-n c =
-    let at-place-4 = c .before .before .before .before in
-    let l = at-place-4 in
+    let l = c .before .before .before .before in
     omega (arith, hex-in (now (l .before .before .args .s)) (l .loop .n) (c .before .hex-value .result) (digit (c .before)) (c .if1 .left))
 
 loop-again : tie.Need-loop-again Inv-loop μ-loop

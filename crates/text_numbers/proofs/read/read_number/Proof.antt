@@ -26,8 +26,7 @@ returns : tie.Need-returns
 returns c =
     let at-byte-at2 = c .before .before in
     let at-if2 = at-byte-at2 .before in
-    let at-place-4 = at-if2 .before in
-    let f = at-place-4 in
+    let f = at-if2 .before in
     sym (number-lead _ _ _ (digit f) (sym (f .before .before .byte-at .ensures) ∙ at-if2 .if2 .taken)
     (tested isDigit (at-byte-at2 .byte-at2 .ensures) (c .before .is-digit2 .ensures) (c .if3 .taken)))
 
@@ -35,8 +34,7 @@ returns-2 : tie.Need-returns-2
 returns-2 c =
     let at-byte-at2 = c .before .before in
     let at-if2 = at-byte-at2 .before in
-    let at-place-4 = at-if2 .before in
-    let f = at-place-4 in
+    let f = at-if2 .before in
     sym (number-zero _ _ _ (digit f) (sym (f .before .before .byte-at .ensures) ∙ at-if2 .if2 .taken)
     (tested isDigit (at-byte-at2 .byte-at2 .ensures) (c .before .is-digit2 .ensures) (c .if3 .left)))
 

@@ -1,8 +1,8 @@
 -- The marked cases of document 01, in one theorem about commuting. What the document leaves open (priorities n and m, actions a and
 -- b, the packet's other fields) is any. Assumes nothing.
 use mathlib.Core.Path.{_≡_, refl, _∙_, ap}
-use mathlib.Core.Bool.{Bool, true, false, and-false}
-use mathlib.Core.List.{List, [], _∷_}
+use mathlib.Core.Bool.{true, false, and-false}
+use mathlib.Core.List.{[], _∷_}
 use Prim.Native.Nat.{ℕ}
 use lib.Dec.{lit<, lit≤}
 use Rattle.flow.specs.Matches.{prefixFits, fits, overlaps, within, MatchInRange}
@@ -10,8 +10,7 @@ use Rattle.flow.specs.Entries.{rank, matchOrder, keyOrder, sameKey, sameAction}
 use Rattle.flow.specs.Orders.{orderOf, thenBy}
 use Rattle.flow.proofs.PrefixField.{prefix-clear-means, prefix-fits-leading}
 use Rattle.flow.proofs.Leading.{overlaps-by-bits, within-by-bits, other-destination}
-use Rattle.flow_table.specs.FlowTable.{pkt, add, addc, modn, dels, deln}
-use Rattle.commuting.specs.Types.{Match, Packet, Action, Exact}
+use Rattle.commuting.specs.Types.{Packet, Action}
 use Rattle.commuting.specs.Commuting.{commutes}
 use Rattle.commuting.specs.Marked.{A, B, D, markedCases}
 

@@ -6,8 +6,8 @@ use mathlib.Core.List.{[], _∷_}
 use Prim.Native.Nat.{ℕ, _≤_}
 use lib.Dec.{eqb}
 use lib.ListN.{length}
-use Rattle.flow.specs.Matches.{fits, overlaps, within, meet, MatchInRange, PacketInRange}
-use Rattle.flow.specs.Entries.{sameKey, sameAction, KeyInRange, ActionInRange}
+use Rattle.flow.specs.Matches.{fits, overlaps, within, meet}
+use Rattle.flow.specs.Entries.{sameKey, sameAction}
 use Rattle.flow_table.specs.FlowTable.{Table, entry, Sorted, TableInRange, Effect, pkt, add, addc, modn, dels, deln, idle, after, answer}
 use Rattle.commuting.specs.Types.{Match, Packet, Action, Key}
 

@@ -1,9 +1,9 @@
 -- Document 01, "Flow table": keys, actions, entries, and the order of a table. That it is a strict total order of the keys is
 -- proved in proofs/Entries.antt.
-use mathlib.Core.Bool.{Bool, true, false, _&&_, cond}
+use mathlib.Core.Bool.{Bool, true, false, _&&_}
 use mathlib.Core.List.{List, [], _∷_}
 use Prim.Native.Nat.{ℕ, _+_, _<_}
-use lib.Dec.{eqb, ltb}
+use lib.Dec.{eqb}
 use Rattle.flow.specs.Orders.{lexical, thenBy, orderOf}
 use Rattle.flow.specs.Types.{Exact, Prefix, Match, Action, Key, Entry, Ordering}
 use Rattle.flow.specs.Matches.{MatchInRange}

@@ -1,6 +1,6 @@
 -- Document 01, "Trace text" and "Tables and replay": the texts of the parts of a line. Each item has its space in front.
 use Prim.Native.Nat.{ℕ}
-use mathlib.Core.List.{List, [], _∷_, _++_}
+use mathlib.Core.List.{List, _++_}
 use Rattle.basics.specs.Text.{bytes}
 use Rattle.text_numbers.specs.Print.{printNumber, printHex}
 use Rattle.text_fields.specs.Types.{Exact, Prefix, Match, Packet, Action, Key, Entry}

@@ -1,3 +1,4 @@
 pub mod Types
 pub mod FlowTable
+pub mod Carried
 pub mod Switches

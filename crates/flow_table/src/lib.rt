@@ -1,7 +1,10 @@
 // What the events of a trace do to a flow table, and what they answer.
+pub mod carried;
 pub mod keys;
 pub mod operation;
 
+pub use carried::Carried;
+pub use carried::carried_by;
 pub use keys::clash;
 pub use operation::Answer;
 pub use operation::Operation;

@@ -15,7 +15,7 @@ use Rattle.text_lines.specs.declared.limits.Limit.{Limit}
 use Rattle.text_lines.proofs.LimitLaws.{limit-within}
 use Rattle.text_reader.proofs.Each.{each-length, each-only, each-refused}
 use Rattle.refusals.specs.Refusals.{placeOf, sourceOf, textIn, lineOf}
-use Rattle.trace_line.specs.EventLine.{clearEvent, readLine, onLine, readEvent}
+use Rattle.trace_line.specs.EventLine.{clearEvent, readNumberedEvent, onLine, readEvent}
 use Rattle.basics.specs.Searches.{lowest}
 use Rattle.trace_text.specs.TraceText.{twice, tooEarly, refusedAt, checkTokens, onEvents, readLines, withinLimits, readTrace}
 use Rattle.trace_text.proofs.Accepted.{token-twice-line, token-early-line}
@@ -32,7 +32,7 @@ not-both e = let z : _≡_ {A = ℕ} 0 1 = cc in absurd (omega arith)
 -- 4, 5, 6 are of the line itself
 event-place : (k : ℕ) (l : List ℕ) (r : Refusal) → readEvent k l ≡ inl r → placeOf r ≡ k
 unfolding readEvent
-event-place k l r h = go (readLine l) h
+event-place k l r h = go (readNumberedEvent l) h
   where
     go : (x : Option (ℕ × Event)) → onLine k x ≡ inl r → placeOf r ≡ k
     go none u = ap placeOf (sym (same-refusal u))

@@ -3,7 +3,7 @@ use Prim.Native.Nat.{ℕ, _+_, _<_, _^_}
 use mathlib.Core.Logic.{_↔_}
 use mathlib.Core.List.{List, [], _∷_, _++_, append-assoc, append-nil}
 use mathlib.Core.Option.{some}
-use mathlib.Core.Path.{_≡_, refl, sym, _∙_}
+use mathlib.Core.Path.{_≡_, refl, sym, _∙_, subst}
 use native.Mathlib.Nat.{zero-add}
 use native.Mathlib.Omega.{arith}
 use lib.ListN.{length, drop, length-append}
@@ -127,3 +127,28 @@ module _ {A : Type 0} {ok : A → Type 0} {print : A → List ℕ} {read : Reade
   -- one text is one value
   pub unique : (a b : A) → ok a → ok b → print a ≡ print b → a ≡ b
   unique a b o q e = same-value (sym (whole (print a) a .1 (o, refl)) ∙ whole (print a) b .1 (q, e))
+
+-- ---- the same texts for values that are made of others: each that is ok is made of one that is
+module _ {A B : Type 0} {ok : A → Type 0} {ok′ : B → Type 0} {print : A → List ℕ} {read : Reader A} {read′ : Reader B}
+    (print′ : B → List ℕ) (make : A → B) (prints : (a : A) → print′ (make a) ≡ print a) (reads : (s : List ℕ) (at : ℕ) → read′ s at ≡ mapped make read s at)
+    (fit : (a : A) → ok a → ok′ (make a)) (made : (b : B) → ok′ b → (a : A) × ok a × (make a ≡ b)) (format : Format ok print read) where
+  made-reads : (a : A) → ok a → (s : List ℕ) (at : ℕ) (rest : List ℕ) → Ends rest → drop at s ≡ print′ (make a) ++ rest
+      → read′ s at ≡ some (make a, at + length (print′ (make a)))
+  unfolding mapped
+  made-reads a o s at rest e h = reads s at ∙ rw (format .reads a o s at rest e (h ∙ rw (prints a) refl), prints a) refl
+
+  all-reads : (b : B) → ok′ b → (s : List ℕ) (at : ℕ) (rest : List ℕ) → Ends rest → drop at s ≡ print′ b ++ rest → read′ s at ≡ some (b, at + length (print′ b))
+  all-reads b o s at rest e h =
+      let (a, q, m) = made b o in
+      subst (λ (b : B). drop at s ≡ print′ b ++ rest → read′ s at ≡ some (b, at + length (print′ b))) m (made-reads a q s at rest e) h
+
+  made-only : (s : List ℕ) (at : ℕ) (b : B) (n : ℕ) → read′ s at ≡ some (b, n) → ok′ b × (drop at s ≡ print′ b ++ drop n s) × (n ≡ at + length (print′ b))
+  unfolding mapped
+  made-only s at b n e = on-read (read s at)
+      (λ a m p q. let x : make a ≡ b = same-value q in
+      let y : m ≡ n = same-place q in
+      let (o, t, l) = format .only s at a m p in
+      rw (← x, ← y) (fit a o, t ∙ rw (prints a) refl, l ∙ rw (prints a) refl)) (sym (reads s at) ∙ e)
+
+  pub made-format : Format ok′ print′ read′
+  made-format = record { reads = all-reads; only = made-only }

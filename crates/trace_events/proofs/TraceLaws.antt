@@ -1,10 +1,8 @@
 -- The events of a trace as its array holds them. Assumes nothing.
 use Prim.Native.Nat.{ℕ, _+_, _<_, _≤_}
-use mathlib.Core.Path.{_≡_, sym, ap, _∙_}
-use mathlib.Core.List.{List, [], _∷_, _++_, map}
-use native.Mathlib.Numerals.{add-one}
-use lib.ListN.{length, take, getD, set, length-map}
-use lib.Seq.{length-take-le, getD-take, take-suc-set}
+use mathlib.Core.Path.{_≡_}
+use lib.ListN.{length, getD}
+use lib.Seq.{length-take-le, getD-take}
 use Rattle.trace_events.specs.Types.{Trace}
 use Rattle.trace_events.specs.Events.{eventsOf, noEvent, eventAt}
 

@@ -1,10 +1,10 @@
 -- Document 01, "Trace text": the events of a trace, their tokens, and the kinds of operations that barriers tell apart.
-use mathlib.Core.Bool.{Bool, true, false, _||_}
+use mathlib.Core.Bool.{Bool, true, false}
 use mathlib.Core.List.{List, [], _∷_}
-use Prim.Native.Nat.{ℕ, zero, suc}
+use Prim.Native.Nat.{ℕ}
 use lib.ListN.{take, getD}
-use Rattle.basics.specs.Searches.{has}
-use Rattle.trace_events.specs.Types.{TableOperation, Operation, Tokens, Event, Trace}
+use Rattle.flow_table.specs.Carried.{carriedOf}
+use Rattle.trace_events.specs.Types.{TableOperation, Operation, Carried, Tokens, Head, Event, Trace}
 
 -- the numbers of a token list: the first `count` of the four, all of them where it is more
 unfoldable pub tokensOf : Tokens → List ℕ
@@ -18,8 +18,11 @@ eventsOf t = take (t .len) (t .events)
 abbrev pub noTokens : Tokens
 noTokens = record { t0 = 0; t1 = 0; t2 = 0; t3 = 0; count = 0 }
 
+abbrev pub noHead : Head
+noHead = record { ins = noTokens; outs = noTokens }
+
 abbrev pub noEvent : Event
-noEvent = record { ins = noTokens; outs = noTokens; operation = Operation.Other }
+noEvent = record { head = noHead; operation = Operation.Other }
 
 -- the event of line i
 abbrev pub eventAt : List Event → ℕ → Event
@@ -31,15 +34,15 @@ isBarrier (Operation.Barrier w) = true
 isBarrier (Operation.Message w) = false
 isBarrier (Operation.Table w o) = false
 
--- a table operation that is a write: all but a packet
+-- what a write carries: all but a packet
+abbrev changes : Carried → Bool
+changes (Carried.Packet p) = false
+changes (Carried.Entry e) = true
+changes (Carried.Key k) = true
+changes (Carried.Match m) = true
+
 abbrev pub isWrite : TableOperation → Bool
-isWrite (TableOperation.Packet p) = false
-isWrite (TableOperation.Add e) = true
-isWrite (TableOperation.AddChecked e) = true
-isWrite (TableOperation.ModifyStrict e) = true
-isWrite (TableOperation.Modify e) = true
-isWrite (TableOperation.DeleteStrict k) = true
-isWrite (TableOperation.Delete m) = true
+isWrite o = changes (carriedOf o)
 
 -- among writes, `bar` and `msg`: what a barrier of the same switch orders
 abbrev pub barrierOrders : Operation → Bool

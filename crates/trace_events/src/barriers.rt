@@ -1,6 +1,8 @@
 // Which operations a barrier of their switch orders.
+use flow_table::Carried;
 use flow_table::Operation;
 use flow_table::TableOperation;
+use flow_table::carried_by;
 ghost use mathlib.Core.Path.{_≡_};
 ghost use Rattle.flow_table.specs.Switches.{switchOf};
 ghost use Rattle.trace_events.specs.Events.{isBarrier, barrierOrders, isWrite};
@@ -33,14 +35,12 @@ pub fn is_barrier(o: Operation) -> bool
 pub fn is_write(o: TableOperation) -> bool
     ensures { λ r. ⌜ r ≡ isWrite o ⌝ }
 {
-    match o {
-        TableOperation::Packet(_) => false,
-        TableOperation::Add(_) => true,
-        TableOperation::AddChecked(_) => true,
-        TableOperation::ModifyStrict(_) => true,
-        TableOperation::Modify(_) => true,
-        TableOperation::DeleteStrict(_) => true,
-        TableOperation::Delete(_) => true,
+    let carried = carried_by(o);
+    match carried {
+        Carried::Packet(_) => false,
+        Carried::Entry(_) => true,
+        Carried::Key(_) => true,
+        Carried::Match(_) => true,
     }
 }
 

@@ -1,13 +1,12 @@
 // One line of a trace.
 use crate::barriers::barrier_step;
-use crate::tokens::Tokens;
+use crate::head::Head;
 use flow_table::Operation;
 ghost use mathlib.Core.Path.{_≡_};
 ghost use Rattle.trace_events.specs.Precedence.{precedes};
 
 pub struct Event {
-    pub ins: Tokens,
-    pub outs: Tokens,
+    pub head: Head,
     pub operation: Operation,
 }
 
@@ -16,10 +15,10 @@ impl Event {
     pub fn precedes(self, other: Event) -> bool
         ensures { λ r. ⌜ r ≡ precedes self other ⌝ }
     {
-        let outs = self.outs;
-        let ins = other.ins;
+        let head = self.head;
+        let later = other.head;
         let a = self.operation;
         let b = other.operation;
-        outs.shares(ins) | barrier_step(a, b)
+        head.passes_to(later) | barrier_step(a, b)
     }
 }

@@ -1,6 +1,6 @@
 // A trace: its events in an array, and how many there are.
 use crate::event::Event;
-use crate::tokens::Tokens;
+use crate::head::Head;
 use flow_table::Operation;
 ghost use mathlib.Core.Path.{_≡_};
 ghost use mathlib.Core.List.{[]};
@@ -15,10 +15,9 @@ impl Trace {
     pub fn empty() -> Trace
         ensures { λ r. ⌜ (eventsOf r ≡ []) × (r .len ≡ 0) ⌝ }
     {
-        let none = Tokens::none();
+        let head = Head::empty();
         let idle = Event {
-            ins: none,
-            outs: none,
+            head,
             operation: Operation::Other,
         };
         let events = [idle; 256];

@@ -1,4 +1,3 @@
-pub mod WordLaws
 pub mod LineLaws
 pub mod OperationFormat
 pub mod LineFormat

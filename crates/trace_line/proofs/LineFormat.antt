@@ -1,6 +1,6 @@
 -- The lines of the grammar are read, each as its number and event, and no other line is; so no event has a second text.
 use Prim.Native.Nat.{ℕ, _≤_}
-use mathlib.Core.List.{List}
+use mathlib.Core.List.{List, _++_, append-assoc}
 use mathlib.Core.Logic.{_↔_}
 use mathlib.Core.Option.{Option, none, some, Option·some-injective}
 use mathlib.Core.Path.{_≡_, refl, _∙_, ap}
@@ -9,31 +9,30 @@ use borrow.Author.Tests.{eq-eqb, eqb-true}
 use lib.Dec.{eqb}
 use lib.ListN.{length}
 use Rattle.basics.specs.Text.{bytes}
-use Rattle.text_numbers.specs.Number.{isDigit}
 use Rattle.text_numbers.specs.Format.{Follows, Format}
 use Rattle.text_numbers.proofs.Readers.{nothing, on-cond}
 use Rattle.text_numbers.proofs.Numbers.{number-format}
 use Rattle.text_numbers.proofs.Format.{space-ends, keyed-format, along, tagged, both-format, whole}
-use Rattle.trace_tokens.proofs.TokenListFormat.{tokens-format}
+use Rattle.trace_words.specs.Words.{wordOf}
+use Rattle.trace_words.proofs.WordFormat.{word-format}
+use Rattle.trace_head.proofs.HeadFormat.{head-format, head-follows}
 use Rattle.trace_line.specs.Types.{Event, Word}
-use Rattle.trace_line.specs.EventLine.{wordOf, printBehind, printEvent, printLine, readParts, readBehind, readItems, readNumbered, atEnd, readLine}
+use Rattle.trace_line.specs.EventLine.{printOperation, printBehind, printEvent, printLine, readParts, readBehind, readItems, readNumbered, atEnd, readNumberedEvent}
 use Rattle.trace_line.specs.Written.{EventWritten}
-use Rattle.trace_line.proofs.WordLaws.{word-format}
 use Rattle.trace_line.proofs.OperationFormat.{operation-format, operation-follows}
 
 -- what stands behind a word
 behind-format : (w : Word) → Format (λ e. EventWritten e × (wordOf (e .operation) ≡ w)) printBehind (readBehind w)
 unfolding printBehind readParts readBehind
 behind-format w =
-    along (λ (e : Event). (e .ins, (e .outs, e .operation))) _
-    (λ e o. ((o .0 .ins, (o .0 .outs, (o .0 .operation, o .1))), refl))
-    (λ f (i, (o, p)). ((record { ins = i; outs = o; operation = p .0 }, p .1), refl))
-    (both-format (λ f rest e. space-ends _) (keyed-format (bytes "in=") tokens-format)
-    (both-format operation-follows (keyed-format (bytes " out=") tokens-format) (operation-format w)))
+    along (λ (e : Event). (e .head, e .operation)) _
+    (λ e o. ((o .0 .head, (o .0 .operation, o .1)), refl))
+    (λ f (h, p). ((record { head = h; operation = p .0 }, p .1), refl))
+    (both-format operation-follows head-format (operation-format w))
 
 behind-follows : Follows printBehind
-unfolding printBehind isDigit
-behind-follows f rest e = record { digit = refl; comma = refl }
+unfolding printBehind
+behind-follows f rest e = rw append-assoc (head-follows (f .head) (printOperation (f .operation) ++ rest) (operation-follows (f .operation) rest e))
 
 items-format : Format EventWritten printEvent readItems
 unfolding printEvent readItems
@@ -62,8 +61,8 @@ at-end l r x = (to r, from)
     from e = rw (e, eq-eqb (length l) (length l) refl) refl
 
 -- a line is read as a number and an event just where it is their text
-pub line-format : (l : List ℕ) (n : ℕ) (e : Event) → (readLine l ≡ some (n, e)) ↔ ((n ≤ 255) × EventWritten e × (l ≡ printLine n e))
-unfolding readLine
+pub line-format : (l : List ℕ) (n : ℕ) (e : Event) → (readNumberedEvent l ≡ some (n, e)) ↔ ((n ≤ 255) × EventWritten e × (l ≡ printLine n e))
+unfolding readNumberedEvent
 line-format l n e = (
   λ p. let (o, t) = whole numbered-format l (n, e) .0 (at-end l (readNumbered l 0) (n, e) .0 p) in (o .0, o .1, t),
   λ (b, o, t). at-end l (readNumbered l 0) (n, e) .1 (whole numbered-format l (n, e) .1 ((b, o), t)),

@@ -1,62 +1,48 @@
 -- A line, by what each of its items reads as.
 use Prim.Native.Nat.{ℕ}
-use mathlib.Core.List.{List, [], _∷_}
+use mathlib.Core.List.{List}
 use mathlib.Core.Logic.{_⊎_, inl}
 use mathlib.Core.Option.{Option, none, some}
 use mathlib.Core.Path.{_≡_, refl, sym, ap, _∙_}
-use denote.Enum.Declared.{tagOf}
-use types.Run.{OneOf, miss}
 use Rattle.basics.specs.Text.{bytes}
 use Rattle.text_numbers.specs.Reading.{andThen, mapped, keyed, both}
 use Rattle.text_numbers.specs.Number.{readNumber}
 use Rattle.text_numbers.proofs.Readers.{twice}
-use Rattle.trace_line.proofs.words.Word.{the-type}
-use Rattle.trace_line.specs.Types.{Refusal, Operation, Event, Word}
-use Rattle.trace_line.specs.Words.{readWord}
-use Rattle.trace_line.specs.EventLine.{readSwitch, readOn, readOperation, readParts, eventOf, readBehind, readItems, readNumbered, atEnd, readLine, onLine, readEvent}
+use Rattle.trace_line.specs.Types.{Refusal, Operation, Event, Word, SwitchWord}
+use Rattle.trace_words.specs.Words.{readWord}
+use Rattle.trace_line.specs.EventLine.{readSwitch, readOn, readOperation, readParts, eventOf, readBehind, readItems, readNumbered, atEnd, readNumberedEvent, onLine, readEvent}
 
 -- what an arm reads is what the word asks for
-pub by-word : (w : ℕ) (s : List ℕ) (at : ℕ) {x : Option (Operation × ℕ)} {u v : Word} → u ≡ v → x ≡ readOn v w s at → x ≡ readOn u w s at
-by-word w s at e h = h ∙ ap (λ u. readOn u w s at) (sym e)
+pub by-arm : (w : ℕ) (s : List ℕ) (at : ℕ) {x : Option (Operation × ℕ)} {u v : SwitchWord} → u ≡ v → x ≡ readOn v w s at → x ≡ readOn u w s at
+by-arm w s at e h = h ∙ ap (λ u. readOn u w s at) (sym e)
 
 -- for all words but `oth` the switch is read, and then the word's own fields
 module _ (s : List ℕ) (at : ℕ) where
-  pub no-switch : {u : Word} → u ≡ Word.Other → some (Operation.Other, at) ≡ readOperation u s at
+  pub no-switch : {v : Word} → v ≡ Word.Other → some (Operation.Other, at) ≡ readOperation v s at
   unfolding readOperation
   no-switch e = rw e refl
 
-  behind-switch : (u : Word) → OneOf (1 ∷ 2 ∷ 3 ∷ 4 ∷ 5 ∷ 6 ∷ []) (tagOf the-type u) → andThen readSwitch (readOn u) s at ≡ readOperation u s at
-  unfolding readOperation
-  behind-switch Word.Other h = absurd (miss (1 ∷ 2 ∷ 3 ∷ 4 ∷ 5 ∷ 6 ∷ []) 0 tt h)
-  behind-switch Word.Barrier h = refl
-  behind-switch Word.Message h = refl
-  behind-switch Word.Packet h = refl
-  behind-switch (Word.Write a) h = refl
-  behind-switch Word.DeleteStrict h = refl
-  behind-switch Word.Delete h = refl
+  module _ {v : Word} {u : SwitchWord} (on : v ≡ Word.On u) where
+    pub bad-switch : keyed (bytes " sw=") (readNumber 15) s at ≡ none → none ≡ readOperation v s at
+    unfolding readOperation andThen readSwitch
+    bad-switch e = rw (on, e) refl
 
-  -- where the word's number is not that of `oth`
-  module _ (u : Word) (h : OneOf (1 ∷ 2 ∷ 3 ∷ 4 ∷ 5 ∷ 6 ∷ []) (tagOf the-type u)) where
-    pub bad-switch : keyed (bytes " sw=") (readNumber 15) s at ≡ none → none ≡ readOperation u s at
-    unfolding andThen readSwitch
-    bad-switch e = rw (← behind-switch u h, e) refl
-
-    pub on-switch : {x : Option (Operation × ℕ)} {w n : ℕ} → keyed (bytes " sw=") (readNumber 15) s at ≡ some (w, n) → x ≡ readOn u w s n → x ≡ readOperation u s at
-    unfolding andThen readSwitch
-    on-switch e r = r ∙ rw (← behind-switch u h, e) refl
+    pub on-switch : {x : Option (Operation × ℕ)} {w n : ℕ} → keyed (bytes " sw=") (readNumber 15) s at ≡ some (w, n) → x ≡ readOn u w s n → x ≡ readOperation v s at
+    unfolding readOperation andThen readSwitch
+    on-switch e r = r ∙ rw (on, e) refl
 
 -- the answer for line k
 module _ (k : ℕ) (l : List ℕ) where
   pub bad-number : keyed (bytes "ev=") (readNumber 255) l 0 ≡ none → inl (Refusal.TraceMalformed k) ≡ readEvent k l
-  unfolding readEvent readLine readNumbered both andThen
+  unfolding readEvent readNumberedEvent readNumbered both andThen
   bad-number e = rw e refl
 
   module _ {n a : ℕ} (e₁ : keyed (bytes "ev=") (readNumber 255) l 0 ≡ some (n, a)) where
     pub bad-word : keyed (bytes " do=") readWord l a ≡ none → inl (Refusal.TraceMalformed k) ≡ readEvent k l
-    unfolding readEvent readLine readNumbered readItems both andThen mapped
+    unfolding readEvent readNumberedEvent readNumbered readItems both andThen mapped
     bad-word e = rw (e₁, e) refl
 
     pub behind-word : {w : Word} {b : ℕ} {x : Refusal ⊎ Event} → keyed (bytes " do=") readWord l a ≡ some (w, b)
         → x ≡ onLine k (atEnd l (mapped (λ p. (n, eventOf p)) (readParts w) l b)) → x ≡ readEvent k l
-    unfolding readEvent readLine readNumbered readItems readBehind both andThen mapped
+    unfolding readEvent readNumberedEvent readNumbered readItems readBehind both andThen mapped
     behind-word {w} {b} e p = p ∙ rw (e₁, e, twice {C = ℕ × Event} (λ e. (n, e)) eventOf (λ p. (n, eventOf p)) (λ p. refl) (readParts w l b))

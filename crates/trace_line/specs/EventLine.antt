@@ -1,8 +1,8 @@
--- Document 01, "Trace text": a line is `key=value` items in fixed order, one space between: `ev`, `do`, `in`, `out`, for all
+-- Document 01, "Trace text": a line is `key=value` items in fixed order, one space between: `ev`, `do`, the head, for all
 -- but `oth` then `sw`, and the operation's own fields. That the reader reads the printed lines and no others is proved in
 -- proofs/LineFormat.antt, `line-format`.
 use mathlib.Core.Bool.{Bool, true, cond}
-use mathlib.Core.List.{List, [], _∷_, _++_}
+use mathlib.Core.List.{List, [], _++_}
 use mathlib.Core.Logic.{_⊎_, inl, inr}
 use mathlib.Core.Option.{Option, none, some}
 use Prim.Native.Nat.{ℕ}
@@ -16,37 +16,18 @@ use Rattle.flow.specs.Matches.{clear}
 use Rattle.text_fields.specs.Print.{printMatch, printPacket, printKey, printEntry}
 use Rattle.text_fields.specs.Read.{readMatch, readPacket, readKey, readEntry}
 use Rattle.text_fields.specs.Written.{clearKey, clearEntry}
-use Rattle.trace_events.specs.Events.{tokensOf}
-use Rattle.trace_tokens.specs.TokenLists.{printTokens, readTokens}
-use Rattle.trace_line.specs.Types.{Refusal, TableOperation, Operation, Entry, Tokens, Event, Word, Write, OperationRead, EventRead}
-use Rattle.trace_line.specs.Words.{wordText, readWord}
+use Rattle.flow_table.specs.Carried.{carriedOf}
+use Rattle.trace_words.specs.Words.{wordOf, writeOf, printWord, readWord}
+use Rattle.trace_head.specs.Heads.{printHead, readHead}
+use Rattle.trace_line.specs.Types.{Refusal, TableOperation, Operation, Carried, Head, Event, Word, SwitchWord}
 
 -- ---- printing
--- the word of an operation
-abbrev tableWord : TableOperation → Word
-tableWord (TableOperation.Packet p) = Word.Packet
-tableWord (TableOperation.Add e) = Word.Write Write.Add
-tableWord (TableOperation.AddChecked e) = Word.Write Write.AddChecked
-tableWord (TableOperation.ModifyStrict e) = Word.Write Write.ModifyStrict
-tableWord (TableOperation.Modify e) = Word.Write Write.Modify
-tableWord (TableOperation.DeleteStrict k) = Word.DeleteStrict
-tableWord (TableOperation.Delete m) = Word.Delete
-
-abbrev pub wordOf : Operation → Word
-wordOf Operation.Other = Word.Other
-wordOf (Operation.Barrier w) = Word.Barrier
-wordOf (Operation.Message w) = Word.Message
-wordOf (Operation.Table w o) = tableWord o
-
 -- for `pkt` the six fields; for writes prio, those six, act (`dels` has no act; `deln` neither prio nor act)
-abbrev printTable : TableOperation → List ℕ
-printTable (TableOperation.Packet p) = printPacket p
-printTable (TableOperation.Add e) = printEntry e
-printTable (TableOperation.AddChecked e) = printEntry e
-printTable (TableOperation.ModifyStrict e) = printEntry e
-printTable (TableOperation.Modify e) = printEntry e
-printTable (TableOperation.DeleteStrict k) = printKey k
-printTable (TableOperation.Delete m) = printMatch m
+abbrev pub printCarried : Carried → List ℕ
+printCarried (Carried.Packet p) = printPacket p
+printCarried (Carried.Entry e) = printEntry e
+printCarried (Carried.Key k) = printKey k
+printCarried (Carried.Match m) = printMatch m
 
 abbrev pub printSwitch : ℕ → List ℕ
 printSwitch w = bytes " sw=" ++ printNumber w
@@ -56,17 +37,14 @@ unfoldable pub printOperation : Operation → List ℕ
 printOperation Operation.Other = []
 printOperation (Operation.Barrier w) = printSwitch w
 printOperation (Operation.Message w) = printSwitch w
-printOperation (Operation.Table w o) = printSwitch w ++ printTable o
+printOperation (Operation.Table w o) = printSwitch w ++ printCarried (carriedOf o)
 
 -- what stands behind the word
 unfoldable pub printBehind : Event → List ℕ
-printBehind e =
-    (bytes "in=" ++ printTokens (tokensOf (e .ins)))
-    ++ ((bytes " out=" ++ printTokens (tokensOf (e .outs)))
-    ++ printOperation (e .operation))
+printBehind e = printHead (e .head) ++ printOperation (e .operation)
 
 unfoldable pub printEvent : Event → List ℕ
-printEvent e = (bytes " do=" ++ wordText (wordOf (e .operation))) ++ printBehind e
+printEvent e = (bytes " do=" ++ printWord (wordOf (e .operation))) ++ printBehind e
 
 -- the line of event number n
 unfoldable pub printLine : ℕ → Event → List ℕ
@@ -77,39 +55,26 @@ printLine n e = (bytes "ev=" ++ printNumber n) ++ printEvent e
 unfoldable pub readSwitch : Reader ℕ
 readSwitch = keyed (bytes " sw=") (readNumber 15)
 
--- the operations of the four words with an entry
-abbrev pub writeOf : Write → Entry → TableOperation
-writeOf Write.Add e = TableOperation.Add e
-writeOf Write.AddChecked e = TableOperation.AddChecked e
-writeOf Write.ModifyStrict e = TableOperation.ModifyStrict e
-writeOf Write.Modify e = TableOperation.Modify e
-
 -- the operation of a word on switch w, with its own fields
-unfoldable pub readOn : Word → ℕ → Reader Operation
-readOn Word.Other w s at = some (Operation.Other, at)
-readOn Word.Barrier w s at = some (Operation.Barrier w, at)
-readOn Word.Message w s at = some (Operation.Message w, at)
-readOn Word.Packet w s at = mapped (λ p. Operation.Table w (TableOperation.Packet p)) readPacket s at
-readOn (Word.Write a) w s at = mapped (λ e. Operation.Table w (writeOf a e)) readEntry s at
-readOn Word.DeleteStrict w s at = mapped (λ k. Operation.Table w (TableOperation.DeleteStrict k)) readKey s at
-readOn Word.Delete w s at = mapped (λ m. Operation.Table w (TableOperation.Delete m)) readMatch s at
+unfoldable pub readOn : SwitchWord → ℕ → Reader Operation
+readOn SwitchWord.Barrier w s at = some (Operation.Barrier w, at)
+readOn SwitchWord.Message w s at = some (Operation.Message w, at)
+readOn SwitchWord.Packet w s at = mapped (λ p. Operation.Table w (TableOperation.Packet p)) readPacket s at
+readOn (SwitchWord.Write a) w s at = mapped (λ e. Operation.Table w (writeOf a e)) readEntry s at
+readOn SwitchWord.DeleteStrict w s at = mapped (λ k. Operation.Table w (TableOperation.DeleteStrict k)) readKey s at
+readOn SwitchWord.Delete w s at = mapped (λ m. Operation.Table w (TableOperation.Delete m)) readMatch s at
 
 -- the rest of the line of an operation, by its word: for all but `oth` the switch, and then its own fields
 unfoldable pub readOperation : Word → Reader Operation
 readOperation Word.Other s at = some (Operation.Other, at)
-readOperation Word.Barrier s at = andThen readSwitch (readOn Word.Barrier) s at
-readOperation Word.Message s at = andThen readSwitch (readOn Word.Message) s at
-readOperation Word.Packet s at = andThen readSwitch (readOn Word.Packet) s at
-readOperation (Word.Write a) s at = andThen readSwitch (readOn (Word.Write a)) s at
-readOperation Word.DeleteStrict s at = andThen readSwitch (readOn Word.DeleteStrict) s at
-readOperation Word.Delete s at = andThen readSwitch (readOn Word.Delete) s at
+readOperation (Word.On u) s at = andThen readSwitch (readOn u) s at
 
 -- what stands behind a word
-unfoldable pub readParts : Word → Reader (Tokens × (Tokens × Operation))
-readParts w = both (keyed (bytes "in=") readTokens) (both (keyed (bytes " out=") readTokens) (readOperation w))
+unfoldable pub readParts : Word → Reader (Head × Operation)
+readParts w = both readHead (readOperation w)
 
-abbrev pub eventOf : Tokens × (Tokens × Operation) → Event
-eventOf (ins, (outs, operation)) = record { ins = ins; outs = outs; operation = operation }
+abbrev pub eventOf : Head × Operation → Event
+eventOf (head, operation) = record { head = head; operation = operation }
 
 unfoldable pub readBehind : Word → Reader Event
 readBehind w = mapped eventOf (readParts w)
@@ -126,25 +91,22 @@ atEnd l none = none
 atEnd l (some r) = cond (eqb (r .1) (length l)) (some (r .0)) none
 
 -- a whole line: its number and its event
-unfoldable pub readLine : List ℕ → Option (ℕ × Event)
-readLine l = atEnd l (readNumbered l 0)
+unfoldable pub readNumberedEvent : List ℕ → Option (ℕ × Event)
+readNumberedEvent l = atEnd l (readNumbered l 0)
 
 -- ---- refusals
 -- no address bit stands past its prefix
-abbrev pub clearTable : TableOperation → Bool
-clearTable (TableOperation.Packet p) = true
-clearTable (TableOperation.Add e) = clearEntry e
-clearTable (TableOperation.AddChecked e) = clearEntry e
-clearTable (TableOperation.ModifyStrict e) = clearEntry e
-clearTable (TableOperation.Modify e) = clearEntry e
-clearTable (TableOperation.DeleteStrict k) = clearKey k
-clearTable (TableOperation.Delete m) = clear m
+abbrev pub clearCarried : Carried → Bool
+clearCarried (Carried.Packet p) = true
+clearCarried (Carried.Entry e) = clearEntry e
+clearCarried (Carried.Key k) = clearKey k
+clearCarried (Carried.Match m) = clear m
 
 abbrev pub clearOperation : Operation → Bool
 clearOperation Operation.Other = true
 clearOperation (Operation.Barrier w) = true
 clearOperation (Operation.Message w) = true
-clearOperation (Operation.Table w o) = clearTable o
+clearOperation (Operation.Table w o) = clearCarried (carriedOf o)
 
 abbrev pub clearEvent : Event → Bool
 clearEvent e = clearOperation (e .operation)
@@ -158,13 +120,4 @@ onLine k (some r) =
     (inl (Refusal.EventMisnumbered k))
 
 unfoldable pub readEvent : ℕ → List ℕ → Refusal ⊎ Event
-readEvent k l = onLine k (readLine l)
-
--- ---- what the code's answers say
-abbrev pub asOperation : OperationRead → Option (Operation × ℕ)
-asOperation (OperationRead.Read o n) = some (o, n)
-asOperation OperationRead.Bad = none
-
-abbrev pub asEvent : EventRead → Refusal ⊎ Event
-asEvent (EventRead.Read e) = inr e
-asEvent (EventRead.Refused r) = inl r
+readEvent k l = onLine k (readNumberedEvent l)

@@ -1,4 +1,4 @@
 pub mod Types
-pub mod Words
 pub mod EventLine
 pub mod Written
+pub mod Inner

@@ -5,28 +5,25 @@ use Rattle.flow.specs.Matches.{PacketInRange}
 use Rattle.text_fields.specs.Written.{MatchWritten, KeyWritten, EntryWritten}
 use Rattle.flow_table.specs.FlowTable.{effectOf, EffectInRange}
 use Rattle.flow_table.specs.Switches.{switchOf}
-use Rattle.trace_tokens.specs.TokenLists.{TokensWritten}
-use Rattle.trace_line.specs.Types.{TableOperation, Operation, Event}
+use Rattle.flow_table.specs.Carried.{carriedOf}
+use Rattle.trace_head.specs.Heads.{HeadWritten}
+use Rattle.trace_line.specs.Types.{Operation, Carried, Event}
 
-abbrev pub TableWritten : TableOperation → Type 0
-TableWritten (TableOperation.Packet p) = PacketInRange p
-TableWritten (TableOperation.Add e) = EntryWritten e
-TableWritten (TableOperation.AddChecked e) = EntryWritten e
-TableWritten (TableOperation.ModifyStrict e) = EntryWritten e
-TableWritten (TableOperation.Modify e) = EntryWritten e
-TableWritten (TableOperation.DeleteStrict k) = KeyWritten k
-TableWritten (TableOperation.Delete m) = MatchWritten m
+abbrev pub CarriedWritten : Carried → Type 0
+CarriedWritten (Carried.Packet p) = PacketInRange p
+CarriedWritten (Carried.Entry e) = EntryWritten e
+CarriedWritten (Carried.Key k) = KeyWritten k
+CarriedWritten (Carried.Match m) = MatchWritten m
 
 -- a switch is 0 to 15
 abbrev pub OperationWritten : Operation → Type 0
 OperationWritten Operation.Other = Unit {0}
 OperationWritten (Operation.Barrier w) = w ≤ 15
 OperationWritten (Operation.Message w) = w ≤ 15
-OperationWritten (Operation.Table w o) = (w ≤ 15) × TableWritten o
+OperationWritten (Operation.Table w o) = (w ≤ 15) × CarriedWritten (carriedOf o)
 
 pub record EventWritten (e : Event) : Type 0 where
-  pub ins : TokensWritten (e .ins)
-  pub outs : TokensWritten (e .outs)
+  pub head : HeadWritten (e .head)
   pub operation : OperationWritten (e .operation)
 
 -- the ranges of document 01: what is done to a table is in range, and the switch is one of sixteen

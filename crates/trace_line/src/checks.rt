@@ -6,7 +6,8 @@ use trace_events::Event;
 ghost use mathlib.Core.Path.{_≡_};
 ghost use mathlib.Core.Bool.{cond};
 ghost use mathlib.Core.Option.{none, some};
-ghost use Rattle.trace_line.specs.EventLine.{onLine, asEvent};
+ghost use Rattle.trace_line.specs.EventLine.{onLine};
+ghost use Rattle.trace_line.specs.Inner.{asEvent};
 
 // Malformed where the items do not end with the line, misnumbered, an address bit past its prefix, in this order.
 pub(crate) fn checked(line: usize, number: usize, event: Event, ended: bool) -> EventRead

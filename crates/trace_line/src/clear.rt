@@ -1,11 +1,12 @@
 // Whether no address bit of an operation stands past its prefix.
 use flow::Entry;
 use flow::Key;
+use flow_table::Carried;
 use flow_table::Operation;
-use flow_table::TableOperation;
+use flow_table::carried_by;
 ghost use mathlib.Core.Path.{_≡_};
 ghost use Rattle.text_fields.specs.Written.{clearKey, clearEntry};
-ghost use Rattle.trace_line.specs.EventLine.{clearTable, clearOperation};
+ghost use Rattle.trace_line.specs.EventLine.{clearCarried, clearOperation};
 
 fn clear_key(k: Key) -> bool
     ensures { λ r. ⌜ r ≡ clearKey k ⌝ }
@@ -21,17 +22,14 @@ fn clear_entry(e: Entry) -> bool
     clear_key(key)
 }
 
-fn clear_table(o: TableOperation) -> bool
-    ensures { λ r. ⌜ r ≡ clearTable o ⌝ }
+fn clear_carried(c: Carried) -> bool
+    ensures { λ r. ⌜ r ≡ clearCarried c ⌝ }
 {
-    match o {
-        TableOperation::Packet(_) => true,
-        TableOperation::Add(e) => clear_entry(e),
-        TableOperation::AddChecked(e) => clear_entry(e),
-        TableOperation::ModifyStrict(e) => clear_entry(e),
-        TableOperation::Modify(e) => clear_entry(e),
-        TableOperation::DeleteStrict(k) => clear_key(k),
-        TableOperation::Delete(m) => m.is_clear(),
+    match c {
+        Carried::Packet(_) => true,
+        Carried::Entry(e) => clear_entry(e),
+        Carried::Key(k) => clear_key(k),
+        Carried::Match(m) => m.is_clear(),
     }
 }
 
@@ -42,6 +40,6 @@ pub fn clear_operation(o: Operation) -> bool
         Operation::Other => true,
         Operation::Barrier(_) => true,
         Operation::Message(_) => true,
-        Operation::Table(_, t) => clear_table(t),
+        Operation::Table(_, t) => clear_carried(carried_by(t)),
     }
 }

@@ -3,7 +3,6 @@ mod checks; // malformed at its end, misnumbered, an address bit past its prefix
 pub mod clear; // no address bit past its prefix
 pub mod line; // the whole line
 pub mod operation; // the switch and the operation's own fields
-pub mod words; // `do`
 
 pub use line::EventRead;
 pub use line::event_line;

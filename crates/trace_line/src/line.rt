@@ -2,18 +2,19 @@
 use crate::checks::checked;
 use crate::operation::OperationRead;
 use crate::operation::operation_at;
-use crate::words::Word;
-use crate::words::WordRead;
-use crate::words::word_at;
 use refusals::Refusal;
 use text_numbers::Number;
 use text_numbers::number_at;
 use trace_events::Event;
-use trace_tokens::TokensRead;
-use trace_tokens::tokens_at;
+use trace_head::HeadRead;
+use trace_head::head_at;
+use trace_words::Word;
+use trace_words::WordRead;
+use trace_words::word_at;
 ghost use mathlib.Core.Path.{_≡_};
 ghost use Rattle.text_numbers.specs.Reading.{mapped};
-ghost use Rattle.trace_line.specs.EventLine.{readParts, eventOf, atEnd, onLine, readEvent, asEvent};
+ghost use Rattle.trace_line.specs.EventLine.{readParts, eventOf, atEnd, onLine, readEvent};
+ghost use Rattle.trace_line.specs.Inner.{asEvent};
 
 // The event of a line, or its refusal.
 pub enum EventRead {
@@ -34,22 +35,18 @@ pub fn event_line(s: &[u8], line: usize) -> EventRead
     event_behind(s, next, line, ev as usize, word)
 }
 
-// The event behind a line's number and word: `in`, `out` and the operation, to the line's end.
+// The event behind a line's number and word: its head and its operation, to the line's end.
 fn event_behind(s: &[u8], at: usize, line: usize, number: usize, word: Word) -> EventRead
     ensures { λ r. ⌜ asEvent r ≡ onLine line (atEnd (now (s .entry)) (mapped (λ p. (number, eventOf p)) (readParts word) (now (s .entry)) at)) ⌝ }
 {
-    let TokensRead::Read { value: ins, next } = tokens_at(s, at, b"in=") else {
-        return EventRead::Refused(Refusal::TraceMalformed(line));
-    };
-    let TokensRead::Read { value: outs, next } = tokens_at(s, next, b" out=") else {
+    let HeadRead::Read { value: head, next } = head_at(s, at) else {
         return EventRead::Refused(Refusal::TraceMalformed(line));
     };
     let OperationRead::Read { value: op, next } = operation_at(s, next, word) else {
         return EventRead::Refused(Refusal::TraceMalformed(line));
     };
     let event = Event {
-        ins,
-        outs,
+        head,
         operation: op,
     };
     checked(line, number, event, next == s.len())

@@ -1,7 +1,4 @@
-// The rest of a line behind `in` and `out`, by the word of `do`: the switch and the operation's own fields.
-use crate::words::Word;
-use crate::words::Write;
-use flow::Entry;
+// The rest of a line behind its head, by the word of `do`: the switch and the operation's own fields.
 use flow_table::Operation;
 use flow_table::TableOperation;
 use text_fields::EntryRead;
@@ -14,10 +11,16 @@ use text_fields::match_at;
 use text_fields::packet_at;
 use text_numbers::Number;
 use text_numbers::number_at;
+use trace_words::SwitchWord;
+use trace_words::Word;
+use trace_words::Write;
+use trace_words::write_of;
 ghost use mathlib.Core.Path.{_≡_};
 ghost use Rattle.text_numbers.specs.Reading.{mapped};
 ghost use Rattle.text_fields.specs.Read.{readPacket, readEntry, readKey, readMatch};
-ghost use Rattle.trace_line.specs.EventLine.{writeOf, readOn, readOperation, asOperation};
+ghost use Rattle.trace_words.specs.Words.{writeOf};
+ghost use Rattle.trace_line.specs.EventLine.{readOn, readOperation};
+ghost use Rattle.trace_line.specs.Inner.{asOperation};
 
 // Switches are 0 to 15.
 const LAST_SWITCH: u16 = 15;
@@ -26,17 +29,6 @@ const LAST_SWITCH: u16 = 15;
 pub enum OperationRead {
     Read { value: Operation, next: usize },
     Bad,
-}
-
-fn write_of(write: Write, entry: Entry) -> TableOperation
-    ensures { λ r. ⌜ r ≡ writeOf write entry ⌝ }
-{
-    match write {
-        Write::Add => TableOperation::Add(entry),
-        Write::AddChecked => TableOperation::AddChecked(entry),
-        Write::ModifyStrict => TableOperation::ModifyStrict(entry),
-        Write::Modify => TableOperation::Modify(entry),
-    }
 }
 
 // Such a write, with its entry.
@@ -93,26 +85,22 @@ fn delete_at(s: &[u8], at: usize, w: u8) -> OperationRead
 }
 
 // The operation of a word on switch w, with its own fields.
-fn fields_at(s: &[u8], at: usize, word: Word, w: u8) -> OperationRead
+fn fields_at(s: &[u8], at: usize, word: SwitchWord, w: u8) -> OperationRead
     ensures { λ r. ⌜ asOperation r ≡ readOn word w (now (s .entry)) at ⌝ }
 {
     match word {
-        Word::Other => OperationRead::Read {
-            value: Operation::Other,
-            next: at,
-        },
-        Word::Barrier => OperationRead::Read {
+        SwitchWord::Barrier => OperationRead::Read {
             value: Operation::Barrier(w),
             next: at,
         },
-        Word::Message => OperationRead::Read {
+        SwitchWord::Message => OperationRead::Read {
             value: Operation::Message(w),
             next: at,
         },
-        Word::Packet => lookup_at(s, at, w),
-        Word::Write(write) => write_at(s, at, w, write),
-        Word::DeleteStrict => delete_strict_at(s, at, w),
-        Word::Delete => delete_at(s, at, w),
+        SwitchWord::Packet => lookup_at(s, at, w),
+        SwitchWord::Write(write) => write_at(s, at, w, write),
+        SwitchWord::DeleteStrict => delete_strict_at(s, at, w),
+        SwitchWord::Delete => delete_at(s, at, w),
     }
 }
 
@@ -120,12 +108,12 @@ fn fields_at(s: &[u8], at: usize, word: Word, w: u8) -> OperationRead
 pub fn operation_at(s: &[u8], at: usize, word: Word) -> OperationRead
     ensures { λ r. ⌜ asOperation r ≡ readOperation word (now (s .entry)) at ⌝ }
 {
-    if let Word::Other = word {
+    let Word::On(word) = word else {
         return OperationRead::Read {
             value: Operation::Other,
             next: at,
         };
-    }
+    };
     let Number::Read { value, next } = number_at(s, at, b" sw=", LAST_SWITCH) else {
         return OperationRead::Bad;
     };

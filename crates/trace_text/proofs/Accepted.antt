@@ -16,7 +16,7 @@ use Rattle.text_lines.specs.Limits.{limitOf, Within}
 use Rattle.text_lines.proofs.LimitLaws.{within-limit, limit-within}
 use Rattle.text_reader.specs.Each.{readEach}
 use Rattle.text_reader.proofs.Each.{refuses, Each, each-only}
-use Rattle.trace_line.specs.EventLine.{printLine, clearEvent, readLine, onLine, readEvent}
+use Rattle.trace_line.specs.EventLine.{printLine, clearEvent, readNumberedEvent, onLine, readEvent}
 use Rattle.trace_line.specs.Written.{EventWritten, EventInRange}
 use Rattle.trace_line.proofs.LineFormat.{line-format}
 use Rattle.trace_line.proofs.EventRanges.{event-range}
@@ -32,9 +32,9 @@ same-value e = cc
 -- ---- a line
 event-only : (k : ℕ) (l : List ℕ) (e : Event) → readEvent k l ≡ inr e → (k ≤ 255) × EventWritten e × (clearEvent e ≡ true) × (l ≡ printLine k e)
 unfolding readEvent
-event-only k l e h = go (readLine l) refl h
+event-only k l e h = go (readNumberedEvent l) refl h
   where
-    go : (r : Option (ℕ × Event)) → readLine l ≡ r → onLine k r ≡ inr e → (k ≤ 255) × EventWritten e × (clearEvent e ≡ true) × (l ≡ printLine k e)
+    go : (r : Option (ℕ × Event)) → readNumberedEvent l ≡ r → onLine k r ≡ inr e → (k ≤ 255) × EventWritten e × (clearEvent e ≡ true) × (l ≡ printLine k e)
     go none q u = refuses u
     go (some r) q u = split (eqb (r .0) k)
         (λ a. split (clearEvent (r .1))

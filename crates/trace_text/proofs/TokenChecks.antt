@@ -47,27 +47,27 @@ unfolding putsOut shares
 puts-nothing outs t from to e = any-none _ to (λ k l. rw (no-tokens t e) (and-false (leb from k)))
 
 -- ---- the tests of a line, where an array has what each line puts out
-module _ (t : Trace) (all : List Tokens) (same : (k : ℕ) → k < t .len → getD all k noTokens ≡ eventAt (eventsOf t) k .outs) where
+module _ (t : Trace) (all : List Tokens) (same : (k : ℕ) → k < t .len → getD all k noTokens ≡ eventAt (eventsOf t) k .head .outs) where
   outs-same : (to : ℕ) → to ≤ t .len → (k : ℕ) → k < to → tokensOf (getD all k noTokens) ≡ outsAt (eventsOf t) k
   outs-same to h k l = ap tokensOf (same k (omega arith))
 
   module _ (j : ℕ) (within : j < t .len) {r : Bool} where
-    pub twice-test : r ≡ putsOut (λ k. tokensOf (getD all k noTokens)) (tokensOf (getD (t .events) j noEvent .outs)) 0 j → r ≡ twice (eventsOf t) j
+    pub twice-test : r ≡ putsOut (λ k. tokensOf (getD all k noTokens)) (tokensOf (getD (t .events) j noEvent .head .outs)) 0 j → r ≡ twice (eventsOf t) j
     unfolding twice
     twice-test e = rw (event-at t j within) (e ∙ puts-same _ _ 0 (outsAt (eventsOf t)) j (outs-same j (omega arith)))
 
-    pub early-test : t .len ≤ length (t .events) → r ≡ putsOut (λ k. tokensOf (getD all k noTokens)) (tokensOf (getD (t .events) j noEvent .ins)) j (t .len)
+    pub early-test : t .len ≤ length (t .events) → r ≡ putsOut (λ k. tokensOf (getD all k noTokens)) (tokensOf (getD (t .events) j noEvent .head .ins)) j (t .len)
         → r ≡ tooEarly (eventsOf t) j
     unfolding tooEarly
     early-test fits e = rw (event-at t j within, length-events t fits) (e ∙ puts-same _ _ j (outsAt (eventsOf t)) (t .len) (outs-same (t .len) (omega arith)))
 
 -- what each line puts out, up to one line more
 pub outs-more : (t : Trace) (all : List Tokens) (k : ℕ) → k < length all → k < t .len
-    → ((i : ℕ) → i < k → getD all i noTokens ≡ eventAt (eventsOf t) i .outs)
-    → (i : ℕ) → i < k + 1 → getD (set all k (getD (t .events) k noEvent .outs)) i noTokens ≡ eventAt (eventsOf t) i .outs
+    → ((i : ℕ) → i < k → getD all i noTokens ≡ eventAt (eventsOf t) i .head .outs)
+    → (i : ℕ) → i < k + 1 → getD (set all k (getD (t .events) k noEvent .head .outs)) i noTokens ≡ eventAt (eventsOf t) i .head .outs
 outs-more t all k room within h i l = go (eqb i k) refl
   where
-    go : (b : Bool) → eqb i k ≡ b → getD (set all k (getD (t .events) k noEvent .outs)) i noTokens ≡ eventAt (eventsOf t) i .outs
+    go : (b : Bool) → eqb i k ≡ b → getD (set all k (getD (t .events) k noEvent .head .outs)) i noTokens ≡ eventAt (eventsOf t) i .head .outs
     go true e = let p : i ≡ k = eqb-true i k e in rw (p, getD-set-same, event-at t k within) refl
     go false e =
         let q : i ≡ k → ⊥ = eqb-false i k e in

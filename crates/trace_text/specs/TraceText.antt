@@ -16,10 +16,10 @@ use Rattle.trace_text.specs.Types.{Refusal, Limit, Event, Outcome, Trace
 
 -- the tokens that line i takes in and puts out
 abbrev pub insAt : List Event → ℕ → List ℕ
-insAt es i = tokensOf (eventAt es i .ins)
+insAt es i = tokensOf (eventAt es i .head .ins)
 
 abbrev pub outsAt : List Event → ℕ → List ℕ
-outsAt es i = tokensOf (eventAt es i .outs)
+outsAt es i = tokensOf (eventAt es i .head .outs)
 
 -- some line from `from` on and before `to` puts out one of the tokens, where `outs` has what each line puts out
 unfoldable pub putsOut : (ℕ → List ℕ) → List ℕ → ℕ → ℕ → Bool

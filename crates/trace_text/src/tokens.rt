@@ -13,14 +13,14 @@ ghost use Rattle.trace_text.specs.TraceText.{putsOut, checkTokens, first
 // What each line puts out: a small array, so that the searches copy no events.
 fn all_outs(t: Trace) -> [Tokens; 256]
     requires { ⌜ t .len ≤ 256 ⌝ }
-    ensures { λ r. ⌜ ((k : ℕ) → k < t .len → getD r k noTokens ≡ eventAt (eventsOf t) k .outs) ⌝ }
+    ensures { λ r. ⌜ ((k : ℕ) → k < t .len → getD r k noTokens ≡ eventAt (eventsOf t) k .head .outs) ⌝ }
 {
     let n = t.len;
     let none = Tokens::none();
     let mut all = [none; 256];
     for k in 0..n {
         let event = t.events[k];
-        let outs = event.outs;
+        let outs = event.head.outs;
         all[k] = outs;
     }
     all
@@ -74,8 +74,8 @@ pub(crate) fn check_tokens(t: Trace) -> Outcome
     let mut early = Outcome::Accepted;
     for k in 0..n {
         let event = t.events[k];
-        let outs = event.outs;
-        let ins = event.ins;
+        let outs = event.head.outs;
+        let ins = event.head.ins;
         let twice_here = refused_if(puts_out(all, outs, 0, k), Refusal::TokenTwice(k));
         let early_here = refused_if(puts_out(all, ins, k, n), Refusal::TokenTooEarly(k));
         twice = first_of(twice, twice_here);

@@ -11,7 +11,7 @@ use Rattle.text_numbers.specs.Reading.{Reader, andThen, mapped}
 use Rattle.text_numbers.specs.Number.{readNumber}
 use Rattle.text_numbers.specs.Print.{printNumber}
 use Rattle.trace_events.specs.Events.{tokensOf}
-use Rattle.trace_tokens.specs.Types.{Tokens, NextToken, TokensRead}
+use Rattle.trace_tokens.specs.Types.{Tokens, NextToken}
 
 -- the numbers after the first, each behind a comma
 unfoldable pub printMore : List ℕ → List ℕ
@@ -72,8 +72,3 @@ ListWritten (t ∷ ts) = (t ≤ 65535) × Rising t ts × (length ts ≤ 3)
 pub record TokensWritten (t : Tokens) : Type 0 where
   pub canonical : tokensFrom (tokensOf t) ≡ t
   pub numbers : ListWritten (tokensOf t)
-
--- what the enum says: the tokens and the place after them, or nothing
-abbrev pub asTokens : TokensRead → Option (Tokens × ℕ)
-asTokens (TokensRead.Read t n) = some (t, n)
-asTokens TokensRead.Bad = none

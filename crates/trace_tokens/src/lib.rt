@@ -9,7 +9,8 @@ ghost use mathlib.Core.List.{[], _∷_, _++_};
 ghost use Prim.Native.Nat.{_<_};
 ghost use Rattle.text_numbers.specs.Reading.{keyed, mapped};
 ghost use Rattle.trace_events.specs.Events.{tokensOf};
-ghost use Rattle.trace_tokens.specs.TokenLists.{nextToken, readMore, readTokens, tokensFrom, asTokens};
+ghost use Rattle.trace_tokens.specs.TokenLists.{nextToken, readMore, readTokens, tokensFrom};
+ghost use Rattle.trace_tokens.specs.Inner.{asTokens};
 
 // What follows a token: a number above it and the place after that, the list's end, or neither.
 pub enum NextToken {

@@ -1,7 +1,7 @@
 use borrow.Author.Needs.{needs}
 use Rattle.text_numbers.specs.Number.{asNumber}
 use Rattle.text_numbers.proofs.Readers.{seen}
-use Rattle.trace_line.specs.Words.{asWord}
+use Rattle.trace_words.specs.Inner.{asWord}
 use Rattle.trace_line.proofs.LineLaws.{bad-number, bad-word, behind-word}
 use Rattle.trace_line.proofs.line.event_line.Statement.{statement}
 use Rattle.trace_line.proofs.line.event_line.Tie as tie

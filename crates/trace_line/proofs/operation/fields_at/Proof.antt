@@ -1,7 +1,7 @@
 use mathlib.Core.Path.{refl}
 use borrow.Author.Needs.{needs}
 use Rattle.trace_line.specs.EventLine.{readOn}
-use Rattle.trace_line.proofs.LineLaws.{by-word}
+use Rattle.trace_line.proofs.LineLaws.{by-arm}
 use Rattle.trace_line.proofs.operation.fields_at.Statement.{statement}
 use Rattle.trace_line.proofs.operation.fields_at.Tie as tie
 
@@ -9,11 +9,10 @@ pub fields-at-spec : {M : Type 1} → statement M
 unfolding readOn
 fields-at-spec =
     tie.close
-    (tie.spec (λ c. search needs) (λ c. search needs) (λ c. search needs) (λ c. search needs) (λ c κs. search needs) (λ c. search needs) (λ c κs. search needs) (λ c. search needs) (λ c κs. search needs) (λ c. search needs) (λ c κs. search needs)
-    (λ c. by-word _ _ _ (c .enum-told .given .1) refl)
-    (λ c. by-word _ _ _ (c .enum-told2 .given .1) refl)
-    (λ c. by-word _ _ _ (c .enum-told3 .given .1) refl)
-    (λ c. by-word _ _ _ (c .before .enum-told4 .given .1) (c .lookup-at .ensures))
-    (λ c. by-word _ _ _ (c .before .before .word .given .1) (c .write-at .ensures))
-    (λ c. by-word _ _ _ (c .before .enum-told5 .given .1) (c .delete-strict-at .ensures))
-    (λ c. by-word _ _ _ (c .before .enum-told6 .given .1) (c .delete-at .ensures)))
+    (tie.spec (λ c. search needs) (λ c. search needs) (λ c. search needs) (λ c κs. search needs) (λ c. search needs) (λ c κs. search needs) (λ c. search needs) (λ c κs. search needs) (λ c. search needs) (λ c κs. search needs)
+    (λ c. by-arm _ _ _ (c .enum-told .given .1) refl)
+    (λ c. by-arm _ _ _ (c .enum-told2 .given .1) refl)
+    (λ c. by-arm _ _ _ (c .before .enum-told3 .given .1) (c .lookup-at .ensures))
+    (λ c. by-arm _ _ _ (c .before .before .word .given .1) (c .write-at .ensures))
+    (λ c. by-arm _ _ _ (c .before .enum-told4 .given .1) (c .delete-strict-at .ensures))
+    (λ c. by-arm _ _ _ (c .before .enum-told5 .given .1) (c .delete-at .ensures)))

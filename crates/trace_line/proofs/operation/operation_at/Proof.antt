@@ -10,10 +10,10 @@ use Rattle.trace_line.proofs.operation.operation_at.Tie as tie
 pub operation-at-spec : {M : Type 1} → statement M
 operation-at-spec =
     tie.close
-    (tie.spec (λ c. search needs)
+    (tie.spec (λ c. search needs) (λ c. search needs)
     (λ c. no-switch _ _ (c .enum-told .given .1)) (λ c. search needs) (λ c κs. search needs) (λ c. search needs) (λ c. search needs)
     (λ c. let n = c .before .before in
-    bad-switch _ _ (n .before .before .before .before .args .word) (n .before .before .match .keys2) (seen asNumber (n .number-at .ensures) (c .enum-told2 .given .1)))
+    bad-switch _ _ (n .before .before .before .word .given .1) (seen asNumber (n .number-at .ensures) (c .enum-told2 .given .1)))
     (λ c. record { fits = keyed-below _ 256 _ _ _ (lit< tt) (lit< tt) (seen asNumber (c .before .before .before .number-at .ensures) (c .before .value .given .1)) }) (λ c κs. search needs)
     (λ c. let n = c .before .before .before .before in
-    on-switch _ _ (n .before .before .before .before .args .word) (n .before .before .match .keys2) (seen asNumber (n .number-at .ensures) (c .before .before .value .given .1)) (c .fields-at .ensures)))
+    on-switch _ _ (n .before .before .before .word .given .1) (seen asNumber (n .number-at .ensures) (c .before .before .value .given .1)) (c .fields-at .ensures)))

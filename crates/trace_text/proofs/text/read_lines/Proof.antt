@@ -11,7 +11,8 @@ use Rattle.text_reader.proofs.Each.{Rest, rest-start, rest-end, rest-refused, r
 use Rattle.text_numbers.proofs.Readers.{seen}
 use Rattle.trace_events.specs.Events.{eventsOf}
 use Rattle.basics.proofs.Arrays.{length-mapped, pushed}
-use Rattle.trace_line.specs.EventLine.{readEvent, asEvent}
+use Rattle.trace_line.specs.EventLine.{readEvent}
+use Rattle.trace_line.specs.Inner.{asEvent}
 use Rattle.trace_text.proofs.text.read_lines.Statement.{statement}
 use Rattle.trace_text.proofs.text.read_lines.Tie as tie
 

@@ -12,7 +12,7 @@ use Rattle.trace_text.proofs.tokens.all_outs.Tie as tie
 
 abbrev Inv-loop : tie.InvT-loop
 Inv-loop t n all₀ k₀ all k =
-    (k ≤ n) × (length (t .events) ≡ 256) × (length all ≡ 256) × ((i : ℕ) → i < k → getD all i noTokens ≡ eventAt (eventsOf t) i .outs)
+    (k ≤ n) × (length (t .events) ≡ 256) × (length all ≡ 256) × ((i : ℕ) → i < k → getD all i noTokens ≡ eventAt (eventsOf t) i .head .outs)
 
 abbrev μ-loop : tie.MeasureT-loop
 μ-loop t n all₀ k₀ all k = n - k

@@ -1,8 +1,8 @@
 use borrow.Author.Needs.{needs}
-use Rattle.trace_line.specs.Words.{readWord}
-use Rattle.trace_line.proofs.WordLaws.{word-before}
-use Rattle.trace_line.proofs.words.read_word.Statement.{statement}
-use Rattle.trace_line.proofs.words.read_word.Tie as tie
+use Rattle.trace_words.specs.Words.{readWord}
+use Rattle.trace_words.proofs.WordFormat.{word-before}
+use Rattle.trace_words.proofs.read.read_word.Statement.{statement}
+use Rattle.trace_words.proofs.read.read_word.Tie as tie
 
 pub read-word-spec : {M : Type 1} → statement M
 unfolding readWord

@@ -1,7 +1,7 @@
 use borrow.Author.Needs.{needs}
-use Rattle.trace_line.proofs.WordLaws.{no-words, word-before}
-use Rattle.trace_line.proofs.words.write_word.Statement.{statement}
-use Rattle.trace_line.proofs.words.write_word.Tie as tie
+use Rattle.trace_words.proofs.WordFormat.{no-words, word-before}
+use Rattle.trace_words.proofs.read.write_word.Statement.{statement}
+use Rattle.trace_words.proofs.read.write_word.Tie as tie
 
 pub write-word-spec : {M : Type 1} → statement M
 write-word-spec =

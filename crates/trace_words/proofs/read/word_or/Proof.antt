@@ -2,8 +2,8 @@ use mathlib.Core.Path.{refl}
 use native.Mathlib.Omega.{arith}
 use borrow.Author.Needs.{needs}
 use Rattle.text_numbers.proofs.Keys.{key-room, word-there, no-word}
-use Rattle.trace_line.proofs.words.word_or.Statement.{statement}
-use Rattle.trace_line.proofs.words.word_or.Tie as tie
+use Rattle.trace_words.proofs.read.word_or.Statement.{statement}
+use Rattle.trace_words.proofs.read.word_or.Tie as tie
 
 pub word-or-spec : {M : Type 1} → statement M
 word-or-spec =

@@ -2,8 +2,8 @@ use native.Mathlib.Omega.{arith}
 use borrow.Author.Needs.{needs}
 use Rattle.basics.specs.Text.{bytes}
 use Rattle.text_numbers.proofs.Keys.{key-room, no-key, past-key}
-use Rattle.trace_line.proofs.words.word_at.Statement.{statement}
-use Rattle.trace_line.proofs.words.word_at.Tie as tie
+use Rattle.trace_words.proofs.read.word_at.Statement.{statement}
+use Rattle.trace_words.proofs.read.word_at.Tie as tie
 
 pub word-at-spec : {M : Type 1} → statement M
 word-at-spec =

@@ -1,6 +1,6 @@
 use borrow.Author.Needs.{needs}
-use Rattle.trace_line.proofs.operation.write_of.Statement.{statement}
-use Rattle.trace_line.proofs.operation.write_of.Tie as tie
+use Rattle.trace_words.proofs.word.write_of.Statement.{statement}
+use Rattle.trace_words.proofs.word.write_of.Tie as tie
 
 pub write-of-spec : {M : Type 1} → statement M
 write-of-spec =

@@ -1,7 +1,7 @@
 -- Document 01, "Tables and replay": the tables of all switches as one list of rows, switches rising, then table order, and
 -- the changes of a table on such a list.
 use mathlib.Core.Path.{_≡_}
-use mathlib.Core.Bool.{Bool, true, false, _&&_, _||_, cond}
+use mathlib.Core.Bool.{Bool, false, _&&_, _||_, cond}
 use mathlib.Core.List.{List, [], _∷_}
 use Prim.Native.Nat.{ℕ}
 use lib.Dec.{eqb}

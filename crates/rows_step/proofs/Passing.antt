@@ -11,9 +11,9 @@ use lib.ListN.{length, take, drop, getD, set, length-set}
 use lib.Seq.{take-set-le, getD-set-other}
 use Rattle.basics.proofs.Arrays.{next, ended, wrote, skipped, finished}
 use Rattle.rows.specs.Rows.{SortedRows, insertRow, anyRow, onSwitch, passes, firstFor}
-use Rattle.rows_step.specs.Types.{Operation, Answer, Row, Filter, Change, Put, Work}
+use Rattle.rows_step.specs.Types.{Operation, Answer, Row, Filter, Put, Work}
 use Rattle.rows_step.specs.Stepping.{stepRows, replyRows}
-use Rattle.rows_step.specs.Inner.{changed, isDropped, treated, fitsSeen, seen, seenRows, withPut, chosen, WorkFor}
+use Rattle.rows_step.specs.Inner.{changed, isDropped, treated, counted, seen, seenRows, withPut, chosen, WorkFor}
 use Rattle.rows_step.proofs.Works.{none-changed, row-changed, sorted-changed, none-pass, none-seen, nothing-passes}
 
 -- a pass over the first n rows of l₀ that has come to row i, has stored k, and by whether a row passed and the answer so far
@@ -27,7 +27,7 @@ pub record Passing (w : Work) (l₀ : List Row) (n : ℕ) (l : List Row) (i k : 
   rows : take k l ++ changed (w .change) (chosen w) (drop i (take n l₀)) ≡ changed (w .change) (chosen w) (take n l₀)
   asked : (met || anyRow (chosen w) (drop i (take n l₀))) ≡ anyRow (chosen w) (take n l₀)
   answers : seenRows (chosen w) a (drop i (take n l₀)) ≡ seenRows (chosen w) (w .answer) (take n l₀)
-  pub count : fitsSeen a ≤ i
+  pub count : counted a ≤ i
 
 none-asked : (p : Row → Bool) → anyRow p [] ≡ false
 unfolding anyRow
@@ -49,7 +49,7 @@ noted-one p a g b x xs e f = ap (λ h. seenRows p h xs) (f ∙ ap (λ c. cond c 
 
 module _ (w : Work) (l₀ : List Row) (n : ℕ) where
   -- where nothing passes the pass starts past the last row
-  pub pass-start : length l₀ ≡ 512 → n ≤ 512 → fitsSeen (w .answer) ≡ 0 → (i : ℕ) → i ≡ firstFor (w .filter) n → Passing w l₀ n l₀ i i false (w .answer)
+  pub pass-start : length l₀ ≡ 512 → n ≤ 512 → counted (w .answer) ≡ 0 → (i : ℕ) → i ≡ firstFor (w .filter) n → Passing w l₀ n l₀ i i false (w .answer)
   pass-start s h c i e = subst (λ j. Passing w l₀ n l₀ j j false (w .answer)) (sym e) (go (w .filter) refl)
     where
       from-first : Passing w l₀ n l₀ 0 0 false (w .answer)
@@ -74,7 +74,7 @@ module _ (w : Work) (l₀ : List Row) (n : ℕ) where
         size = s;
         whole = s;
         left = λ d j g. refl;
-        rows = rw (ended l₀ n n (le-refl n) (omega arith)) (ap (λ r. take n l₀ ++ r) (none-changed (w .change) (chosen w)) ∙ append-nil (take n l₀) ∙ sym (none-pass (w .change) (chosen w) (take n l₀) z));
+        rows = rw (ended l₀ n n (le-refl n) (omega arith)) (ap (λ r. take n l₀ ++ r) (none-changed (chosen w) (w .change)) ∙ append-nil (take n l₀) ∙ sym (none-pass (chosen w) (w .change) (take n l₀) z));
         asked = rw (ended l₀ n n (le-refl n) (omega arith)) (none-asked (chosen w) ∙ sym z);
         answers = rw (ended l₀ n n (le-refl n) (omega arith)) (nothing-seen (chosen w) (w .answer) ∙ sym (none-seen (chosen w) (w .answer) (take n l₀) z));
         count = omega arith;
@@ -108,7 +108,7 @@ module _ (w : Work) (l₀ : List Row) (n : ℕ) where
     stored false y e = wrote (changed (w .change) (chosen w)) l₀ n i l _ k (omega (arith, s .fits, s .whole)) (s .rows) d y h (omega (arith, s .below, s .fits, s .size)) (rw here at e)
 
     pub pass-turn : (b : Bool) → b ≡ chosen w (getD l i d) → (y : Row) → y ≡ treated (w .change) b (getD l i d) → (c : Bool) → c ≡ isDropped (w .change) b
-        → (k₁ : ℕ) → k₁ ≡ cond c k (k + 1) → k₁ ≤ k + 1 → (g : Answer) → g ≡ cond b (seen a (getD l i d .entry)) a → fitsSeen g ≤ fitsSeen a + 1
+        → (k₁ : ℕ) → k₁ ≡ cond c k (k + 1) → k₁ ≤ k + 1 → (g : Answer) → g ≡ cond b (seen a (getD l i d .entry)) a → counted g ≤ counted a + 1
         → Passing w l₀ n (set l k y) (i + 1) k₁ (met || b) g
     unfolding rest
     pass-turn b e y u c v k₁ m t g f z = record {
@@ -118,7 +118,7 @@ module _ (w : Work) (l₀ : List Row) (n : ℕ) where
       size = rw length-set (s .size);
       whole = s .whole;
       left = λ q j o. getD-set-other l k j y q (λ r. omega (arith, s .below)) ∙ s .left q j (omega arith);
-      rows = rw m (stored c y (row-changed (w .change) (chosen w) (getD l i d) rest ∙ rw (u, v, e) refl));
+      rows = rw m (stored c y (row-changed (chosen w) (w .change) (getD l i d) rest ∙ rw (u, v, e) refl));
       asked = asked-one (chosen w) met b (getD l i d) rest e ∙ ap (λ r. met || anyRow (chosen w) r) (sym ahead) ∙ s .asked;
       answers = noted-one (chosen w) a g b (getD l i d) rest e f ∙ ap (seenRows (chosen w) a) (sym ahead) ∙ s .answers;
       count = omega (arith, s .count);
@@ -137,7 +137,7 @@ pub pass-end : (w : Work) (l₀ : List Row) (n : ℕ) (l : List Row) (i k : ℕ)
 pass-end w l₀ n l i k met a s h o f z p q = record {
   size = s .size;
   most = omega (arith, s .below, s .within);
-  sorted = rw kept (sorted-changed (w .change) (chosen w) (take n l₀) z);
+  sorted = rw kept (sorted-changed (chosen w) (w .change) (take n l₀) z);
   rows = rw (kept, q, told) (sym (f .rows (take n l₀)));
   reply = sym (nothing-seen (chosen w) a) ∙ ap (seenRows (chosen w) a) (sym over) ∙ s .answers ∙ sym (f .reply (take n l₀));
 }
@@ -146,7 +146,7 @@ pass-end w l₀ n l i k met a s h o f z p q = record {
     over = ended l₀ n i h (omega (arith, s .fits, s .whole))
 
     kept : take k l ≡ changed (w .change) (chosen w) (take n l₀)
-    kept = finished (changed (w .change) (chosen w)) l₀ n i l _ k (omega (arith, s .fits, s .whole)) (s .rows) h (none-changed (w .change) (chosen w))
+    kept = finished (changed (w .change) (chosen w)) l₀ n i l _ k (omega (arith, s .fits, s .whole)) (s .rows) h (none-changed (chosen w) (w .change))
 
     told : met ≡ anyRow (chosen w) (take n l₀)
     told = sym (or-false met) ∙ ap (λ b. met || b) (sym (none-asked (chosen w)) ∙ ap (anyRow (chosen w)) (sym over)) ∙ s .asked

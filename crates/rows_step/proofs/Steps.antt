@@ -12,9 +12,9 @@ use Rattle.flow.specs.Entries.{sameKey}
 use Rattle.basics.proofs.Booleans.{split}
 use Rattle.flow_table.specs.FlowTable.{inside, clash, anyOf, tableEffect, after, answer}
 use Rattle.flow_table.specs.Switches.{stepOf, replyOf}
-use Rattle.rows.specs.Types.{Entry, TableOperation, Operation, Answer}
+use Rattle.rows.specs.Types.{TableOperation, Operation, Answer}
 use Rattle.rows.specs.declared.row.Row.{Row}
-use Rattle.rows.specs.Rows.{row, SortedRows, tableOf, tablesOf, insertRow, assignRows, anyRow, onSwitch}
+use Rattle.rows.specs.Rows.{row, SortedRows, tableOf, tablesOf, anyRow, onSwitch}
 use Rattle.rows_step.specs.Stepping.{tableStep, stepRows, tableReply, replyRows}
 use Rattle.rows.proofs.RowLaws.{sorted-insert, sorted-remove, sorted-assign, length-insert, length-remove, length-assign}
 use Rattle.rows.proofs.TablesOf.{table-insert, table-remove, table-assign, table-any}

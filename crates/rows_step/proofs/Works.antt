@@ -5,55 +5,49 @@ use mathlib.Core.Bool.{Bool, true, false, not, cond}
 use mathlib.Core.List.{List, [], _∷_}
 use Prim.Native.Nat.{ℕ}
 use lib.Dec.{eqb}
-use Rattle.flow.specs.Entries.{sameKey}
 use Rattle.basics.proofs.Booleans.{split, and-false-right, or-left, or-right}
 use Rattle.flow_table.specs.FlowTable.{inside, clash, admits}
 use Rattle.rows.specs.Rows.{row, SortedRows, insertRow, removeRows, assignRow, assignRows, anyRow, onSwitch, passes}
 use Rattle.rows.proofs.RowLaws.{sorted-remove, sorted-assign}
-use Rattle.rows_step.specs.Types.{Packet, Entry, TableOperation, Operation, Answer, Row, Filter, Change, Put, Work}
+use Rattle.rows_step.specs.Types.{Packet, Entry, TableOperation, Operation, Answer, Row, Filter, Change, Put}
 use Rattle.rows_step.specs.Stepping.{tableStep, stepRows, tableReply, replyRows}
-use Rattle.rows_step.specs.Inner.{changed, isDropped, treated, seen, seenRows, withPut, chosen, WorkFor}
+use Rattle.rows_step.specs.Inner.{changed, isDropped, treated, seen, seenRows, withPut, WorkFor}
 use Rattle.rows_step.proofs.Lookups.{lookup-best}
 
 -- ---- a pass, row by row
-module _ (c : Change) (p : Row → Bool) where
-  pub none-changed : changed c p [] ≡ []
+module _ (p : Row → Bool) where
+  pub none-changed : (c : Change) → changed c p [] ≡ []
   unfolding changed removeRows assignRows
-  none-changed = go c
-    where
-      go : (e : Change) → changed e p [] ≡ []
-      go Change.Keep = refl
-      go Change.Drop = refl
-      go (Change.Assign a) = refl
+  none-changed Change.Keep = refl
+  none-changed Change.Drop = refl
+  none-changed (Change.Assign a) = refl
 
-  pub row-changed : (x : Row) (xs : List Row) → changed c p (x ∷ xs) ≡ cond (isDropped c (p x)) (changed c p xs) (treated c (p x) x ∷ changed c p xs)
+  pub row-changed : (c : Change) (x : Row) (xs : List Row) → changed c p (x ∷ xs) ≡ cond (isDropped c (p x)) (changed c p xs) (treated c (p x) x ∷ changed c p xs)
   unfolding changed removeRows assignRows
-  row-changed x xs = go c
-    where
-      go : (e : Change) → changed e p (x ∷ xs) ≡ cond (isDropped e (p x)) (changed e p xs) (treated e (p x) x ∷ changed e p xs)
-      go Change.Keep = refl
-      go Change.Drop = refl
-      go (Change.Assign a) = refl
+  row-changed Change.Keep x xs = refl
+  row-changed Change.Drop x xs = refl
+  row-changed (Change.Assign a) x xs = refl
 
-  pub sorted-changed : (rs : List Row) → SortedRows rs → SortedRows (changed c p rs)
+  pub sorted-changed : (c : Change) (rs : List Row) → SortedRows rs → SortedRows (changed c p rs)
   unfolding changed
-  sorted-changed rs s = go c
-    where
-      go : (e : Change) → SortedRows (changed e p rs)
-      go Change.Keep = s
-      go Change.Drop = sorted-remove p rs s
-      go (Change.Assign a) = sorted-assign p a rs s
+  sorted-changed Change.Keep rs s = s
+  sorted-changed Change.Drop rs s = sorted-remove p rs s
+  sorted-changed (Change.Assign a) rs s = sorted-assign p a rs s
+
+  -- a row that does not pass stays
+  not-chosen : (c : Change) (x : Row) (ys : List Row) → cond (isDropped c false) ys (treated c false x ∷ ys) ≡ x ∷ ys
+  unfolding assignRow
+  not-chosen Change.Keep x ys = refl
+  not-chosen Change.Drop x ys = refl
+  not-chosen (Change.Assign a) x ys = refl
 
   -- where no row passes, all stay
-  pub none-pass : (rs : List Row) → anyRow p rs ≡ false → changed c p rs ≡ rs
-  unfolding anyRow assignRow
-  none-pass [] h = none-changed
-  none-pass (x ∷ xs) h = row-changed x xs ∙ rw (or-left (p x) (anyRow p xs) h) (go c (changed c p xs)) ∙ ap (λ ys. x ∷ ys) (none-pass xs (or-right (p x) (anyRow p xs) h))
-    where
-      go : (e : Change) (ys : List Row) → cond (isDropped e false) ys (treated e false x ∷ ys) ≡ x ∷ ys
-      go Change.Keep ys = refl
-      go Change.Drop ys = refl
-      go (Change.Assign a) ys = refl
+  pub none-pass : (c : Change) (rs : List Row) → anyRow p rs ≡ false → changed c p rs ≡ rs
+  unfolding anyRow
+  none-pass c [] h = none-changed c
+  none-pass c (x ∷ xs) h =
+      row-changed c x xs ∙ rw (or-left (p x) (anyRow p xs) h) (not-chosen c x (changed c p xs))
+      ∙ ap (λ ys. x ∷ ys) (none-pass c xs (or-right (p x) (anyRow p xs) h))
 
 -- ---- the answer
 module _ (q : Row → Bool) where
@@ -85,10 +79,6 @@ nothing-passes w [] = refl
 nothing-passes w (x ∷ xs) = rw (and-false-right (eqb w (x .switch)) refl) (nothing-passes w xs)
 
 -- ---- the work of each operation
-cond-idle : {A : Type 0} (b : Bool) (x : A) → x ≡ cond b x x
-cond-idle true x = refl
-cond-idle false x = refl
-
 -- nothing is asked
 pub putting-work : (o : Operation) (p : Put) → ((rs : List Row) → stepRows o rs ≡ withPut p rs) → ((rs : List Row) → replyRows o rs ≡ Answer.Silent)
     → WorkFor o (record { switch = 0; filter = Filter.Nothing; change = Change.Keep; put = p; answer = Answer.Silent })
@@ -103,7 +93,7 @@ pub packet-work : (w : ℕ) (p : Packet) → WorkFor (Operation.Table w (TableOp
 unfolding changed stepRows tableStep replyRows tableReply
 packet-work w p = record {
   fresh = refl;
-  rows = λ rs. ap (λ x. withPut x rs) (cond-idle (anyRow (onSwitch w (admits p)) rs) Put.Nothing);
+  rows = λ rs. split (anyRow (onSwitch w (admits p)) rs) (λ u. rw u refl) (λ u. rw u refl);
   reply = λ rs. sym (lookup-best w p rs);
 }
 
@@ -119,7 +109,7 @@ pub modify-work : (w : ℕ) (e : Entry) → WorkFor (Operation.Table w (TableOpe
 unfolding changed stepRows tableStep replyRows tableReply
 modify-work w e = record {
   fresh = refl;
-  rows = λ rs. split (anyRow (onSwitch w (inside (e .key .pattern))) rs) (λ u. rw u refl) (λ u. rw u (ap (insertRow (row w e)) (sym (none-pass (Change.Assign (e .action)) _ rs u))));
+  rows = λ rs. split (anyRow (onSwitch w (inside (e .key .pattern))) rs) (λ u. rw u refl) (λ u. rw u (ap (insertRow (row w e)) (sym (none-pass _ (Change.Assign (e .action)) rs u))));
   reply = λ rs. silent-stays _ rs;
 }
 
@@ -129,6 +119,6 @@ pub removing-work : (o : Operation) (w : ℕ) (f : Filter) → ((rs : List Row) 
 unfolding changed
 removing-work o w f s g = record {
   fresh = refl;
-  rows = λ rs. s rs ∙ ap (λ x. withPut x (removeRows (onSwitch w (passes f)) rs)) (cond-idle (anyRow (onSwitch w (passes f)) rs) Put.Nothing);
+  rows = λ rs. s rs ∙ split (anyRow (onSwitch w (passes f)) rs) (λ u. rw u refl) (λ u. rw u refl);
   reply = λ rs. g rs ∙ silent-stays _ rs;
 }

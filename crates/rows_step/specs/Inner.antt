@@ -28,11 +28,11 @@ treated (Change.Assign a) b x = assignRow b a x
 
 -- ---- the answer so far
 -- how many entries it counts
-abbrev pub fitsSeen : Answer → ℕ
-fitsSeen Answer.Silent = 0
-fitsSeen Answer.Miss = 0
-fitsSeen (Answer.Hit n count a) = count
-fitsSeen (Answer.Done b) = 0
+abbrev pub counted : Answer → ℕ
+counted Answer.Silent = 0
+counted Answer.Miss = 0
+counted (Answer.Hit n count a) = count
+counted (Answer.Done b) = 0
 
 -- after one more entry that fits
 unfoldable pub seenAt : ℕ → ℕ → Action → ℕ → Action → Answer
@@ -63,6 +63,6 @@ chosen w = onSwitch (w .switch) (passes (w .filter))
 
 -- w is the work of an event that does o: what o leaves and answers is what the pass does, with a row put in where none passed
 pub record WorkFor (o : Operation) (w : Work) : Type 0 where
-  pub fresh : fitsSeen (w .answer) ≡ 0
+  pub fresh : counted (w .answer) ≡ 0
   pub rows : (rs : List Row) → stepRows o rs ≡ withPut (cond (anyRow (chosen w) rs) Put.Nothing (w .put)) (changed (w .change) (chosen w) rs)
   pub reply : (rs : List Row) → replyRows o rs ≡ seenRows (chosen w) (w .answer) rs

@@ -7,7 +7,7 @@ use flow_table::TableOperation;
 use rows::Filter;
 use rows::Row;
 ghost use mathlib.Core.Path.{_≡_};
-ghost use mathlib.Core.Bool.{_&&_, cond};
+ghost use mathlib.Core.Bool.{cond};
 ghost use Prim.Native.Nat.{_+_, _<_, _≤_};
 ghost use Rattle.rows_step.specs.Inner.{isDropped, treated, WorkFor};
 

@@ -11,7 +11,8 @@ check-order-requires : tie.Need-check-order-requires
 check-order-requires c κs =
     let d = c .before .before in
     let read = d .before .before .before .read-tables in
-    (d .before .before .before .before .before .before .before .before .pre, read .ensures .1, accepted-sorted _ _ (sym (sym (ap (λ o. asOutcome o (rowsOf (read .result .rows))) (d .enum-told .given .1)) ∙ read .ensures .0)))
+    let s = d .before .before .before .before .before .before .before .before in
+    (s .pre, read .ensures .1, accepted-sorted _ _ (sym (sym (ap (λ o. asOutcome o (rowsOf (read .result .rows))) (d .enum-told .given .1)) ∙ read .ensures .0)))
 
 returns : tie.Need-returns
 returns c =

@@ -1,3 +1,4 @@
+-- In each arm the answer is that of the definition; a count of the best priority grows by one at most.
 use mathlib.Core.Path.{refl}
 use native.Mathlib.Omega.{arith}
 use borrow.Author.Tests.{lt-ltb, le-ltb, eq-eqb, ne-eqb}

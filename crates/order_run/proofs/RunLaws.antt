@@ -1,6 +1,6 @@
 -- The turns of a run: one event more. Assumes nothing.
 use mathlib.Core.Path.{_≡_, refl, sym, ap, _∙_}
-use mathlib.Core.Bool.{Bool, true, cond}
+use mathlib.Core.Bool.{cond}
 use mathlib.Core.List.{List, _∷_}
 use Prim.Native.Nat.{ℕ, _+_, _≤_, _<_}
 use native.Mathlib.Numerals.{add-one}
@@ -38,18 +38,18 @@ kept-set ks e i k l =
     (λ u. rw u (ap (λ x. x .answer) (getD-set-other ks e i k noAnswer (eqb-false i e u))))
 
 -- a run of o that has come to place p: the rest of the order does to the rows so far, and keeps beside the answers so far, what the
--- order does from the start; b where the rows were in order
-pub record Runs (es : List Event) (o : List ℕ) (b : Bool) (start : List Row) (len₀ p : ℕ) (ks : List Kept) (len : ℕ) (l : List Row) : Type 0 where
+-- order does from the start
+pub record Runs (es : List Event) (o : List ℕ) (start : List Row) (len₀ p : ℕ) (ks : List Kept) (len : ℕ) (l : List Row) : Type 0 where
   pub here : p ≤ length o
   pub room : length ks ≡ 256
   pub count : len ≤ len₀ + p
   pub size : length l ≡ 512
-  pub sorted : b ≡ true → SortedRows (take len l)
+  pub sorted : SortedRows (take len l)
   pub rows : runRows es (drop p o) (take len l) ≡ runRows es o start
   pub answers : (i : ℕ) → keptIn es i (drop p o) (take len l) (keptAt ks i) ≡ answersIn es o start i
 
-module _ (es : List Event) (o : List ℕ) (b : Bool) (len : ℕ) (l : List Row) (ks : List Kept) where
-  pub run-start : length ks ≡ 256 → ((i : ℕ) → keptAt ks i ≡ Answer.Silent) → length l ≡ 512 → (b ≡ true → SortedRows (take len l)) → Runs es o b (take len l) len 0 ks len l
+module _ (es : List Event) (o : List ℕ) (len : ℕ) (l : List Row) (ks : List Kept) where
+  pub run-start : length ks ≡ 256 → ((i : ℕ) → keptAt ks i ≡ Answer.Silent) → length l ≡ 512 → SortedRows (take len l) → Runs es o (take len l) len 0 ks len l
   unfolding answersIn
   run-start r k s q = record {
     here = omega arith;
@@ -61,18 +61,18 @@ module _ (es : List Event) (o : List ℕ) (b : Bool) (len : ℕ) (l : List Row) 
     answers = λ i. ap (keptIn es i o (take len l)) (k i);
   }
 
-  module _ (start : List Row) (len₀ p : ℕ) (r : Runs es o b start len₀ p ks len l) where
+  module _ (start : List Row) (len₀ p : ℕ) (r : Runs es o start len₀ p ks len l) where
     -- one event more, by the rows that it leaves and its answer
     pub run-turn : p < length o → getD o p 0 < 256 → (len₁ : ℕ) (l₁ : List Row) (a : Answer) → len₁ ≤ len + 1 → length l₁ ≡ 512
         → take len₁ l₁ ≡ stepRows (operationAt es (getD o p 0)) (take len l) → a ≡ replyRows (operationAt es (getD o p 0)) (take len l)
-        → Runs es o b start len₀ (p + 1) (set ks (getD o p 0) (kept a)) len₁ l₁
+        → Runs es o start len₀ (p + 1) (set ks (getD o p 0) (kept a)) len₁ l₁
     unfolding runRows keptIn
     run-turn h e len₁ l₁ a g s f q = record {
       here = omega arith;
       room = rw length-set (r .room);
       count = omega (arith, r .count);
       size = s;
-      sorted = λ z. rw f (sorted-step _ _ (r .sorted z));
+      sorted = rw f (sorted-step _ _ (r .sorted));
       rows = ap (runRows es (drop (p + 1) o)) f ∙ sym (ap (λ z. runRows es z (take len l)) (at-place o p h)) ∙ r .rows;
       answers = λ i.
           ap (λ z. keptIn es i (drop (p + 1) o) z (keptAt (set ks (getD o p 0) (kept a)) i)) f

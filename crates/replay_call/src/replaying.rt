@@ -11,7 +11,7 @@ ghost use mathlib.Core.Path.{_≡_};
 ghost use Prim.Native.Nat.{_≤_};
 ghost use lib.ListN.{length};
 ghost use Rattle.trace_events.specs.Events.{eventsOf};
-ghost use Rattle.rows.specs.Rows.{rowsOf};
+ghost use Rattle.rows.specs.Rows.{rowsOf, SortedRows};
 ghost use Rattle.tables_text.specs.TableText.{readTables};
 ghost use Rattle.replay_texts.specs.Writing.{Leaves};
 ghost use Rattle.replay_call.specs.Replay.{ranFrom, ordered, onward, replayAnswer, tablesAfter, answersAfter};
@@ -24,7 +24,7 @@ fn run_order(
     out: &mut [u8],
     replies: &mut [u8],
 ) -> ReplayAnswer
-    requires { ⌜ (t .len ≤ 256) × (start .len ≤ 256) × (length (now order) ≤ 256) ⌝ }
+    requires { ⌜ (t .len ≤ 256) × (start .len ≤ 256) × (length (now order) ≤ 256) × (SortedRows (rowsOf start)) ⌝ }
     ensures { λ r. ⌜ Leaves (ranFrom (eventsOf t) (rowsOf start) (now (order .entry)) (length (now (out .entry))) (length (now (replies .entry)))) r (now (out .entry)) (now (out .exit)) (now (replies .entry)) (now (replies .exit)) ⌝ }
 {
     let n = t.len;
@@ -45,7 +45,7 @@ fn check_order(
     out: &mut [u8],
     replies: &mut [u8],
 ) -> ReplayAnswer
-    requires { ⌜ (t .len ≤ 256) × (start .len ≤ 256) ⌝ }
+    requires { ⌜ (t .len ≤ 256) × (start .len ≤ 256) × (SortedRows (rowsOf start)) ⌝ }
     ensures { λ r. ⌜ Leaves (ordered (eventsOf t) (rowsOf start) (now (order .entry)) (length (now (out .entry))) (length (now (replies .entry)))) r (now (out .entry)) (now (out .exit)) (now (replies .entry)) (now (replies .exit)) ⌝ }
 {
     let rows = happens_before::happens_before(t);

@@ -1,4 +1,3 @@
 pub mod RowOrder
 pub mod RowLaws
 pub mod TablesOf
-pub mod InOrder

@@ -3,13 +3,19 @@ use mathlib.Core.Path.{_≡_, refl, sym, _∙_, ap, ap₂}
 use mathlib.Core.Bool.{Bool, true, false, cond}
 use mathlib.Core.Logic.{⊎-elim}
 use mathlib.Core.List.{List, [], _∷_, List·Memᴰ, List·Memᴰ·head, List·Memᴰ·tail, List·Memᴰ·cases-cons, List·Memᴰ·not-nil}
-use Prim.Native.Nat.{suc, _≤_}
+use Prim.Native.Nat.{ℕ, zero, suc, _≤_, _<_}
 use native.Mathlib.Omega.{arith}
-use lib.ListN.{length}
+use lib.ListN.{length, getD}
 use Rattle.flow.proofs.Orders.{equal≢less}
 use Rattle.rows.specs.Types.{Action, Ordering, Row}
 use Rattle.rows.specs.Rows.{rowOrder, RowBefore, SortedRows, insertRowBy, insertRow, removeRows, assignRow, assignRows}
 use Rattle.rows.proofs.RowOrder.{slotOf, row-same, row-chain, row-greater, row-self, like-slot}
+
+-- a row before all of a list is before the one at each index
+pub before-at : (r : Row) (xs : List Row) (m : ℕ) (d : Row) → RowBefore r xs → m < length xs → rowOrder r (getD xs m d) ≡ Ordering.Less
+before-at r [] m d b h = absurd (omega arith)
+before-at r (x ∷ xs) zero d b h = b .0
+before-at r (x ∷ xs) (suc m) d b h = before-at r xs m d (b .1) (omega arith)
 
 -- ---- order kept
 pub before-chain : (r s : Row) (xs : List Row) → rowOrder r s ≡ Ordering.Less → RowBefore s xs → RowBefore r xs

@@ -1,7 +1,7 @@
 -- Document 01, "Tables and replay": the tables of all switches as one list of rows, switches rising, then table order, and
 -- the changes of a table on such a list.
 use mathlib.Core.Path.{_≡_}
-use mathlib.Core.Bool.{Bool, true, false, _&&_, _||_, cond}
+use mathlib.Core.Bool.{Bool, false, _&&_, _||_, cond}
 use mathlib.Core.List.{List, [], _∷_}
 use Prim.Native.Nat.{ℕ}
 use lib.Dec.{eqb}
@@ -26,11 +26,6 @@ rowOrder r s = thenBy (orderOf (r .switch) (s .switch)) (keyOrder (r .entry .key
 -- the same switch and key
 unfoldable pub sameSlot : Row → Row → Bool
 sameSlot r s = isEqual (rowOrder r s)
-
-abbrev pub isLess : Ordering → Bool
-isLess Ordering.Less = true
-isLess Ordering.Equal = false
-isLess Ordering.Greater = false
 
 -- every row of the list stands after r
 abbrev pub RowBefore : Row → List Row → Type 0
@@ -85,7 +80,16 @@ unfoldable pub onSwitch : ℕ → (Key → Bool) → Row → Bool
 onSwitch w p x = eqb w (x .switch) && p (x .entry .key)
 
 abbrev pub passes : Filter → Key → Bool
+passes Filter.Nothing = λ k. false
 passes (Filter.Same k) = sameKey k
 passes (Filter.Within m) = inside m
 passes (Filter.Clash k) = clash k
 passes (Filter.Fits p) = admits p
+
+-- the first of n rows that may pass: past the last where none does
+abbrev pub firstFor : Filter → ℕ → ℕ
+firstFor Filter.Nothing n = n
+firstFor (Filter.Same k) n = 0
+firstFor (Filter.Within m) n = 0
+firstFor (Filter.Clash k) n = 0
+firstFor (Filter.Fits p) n = 0

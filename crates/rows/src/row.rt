@@ -4,10 +4,7 @@ use flow::Action;
 use flow::Entry;
 use flow::Ordering;
 ghost use mathlib.Core.Path.{_≡_};
-ghost use mathlib.Core.Bool.{true};
-ghost use mathlib.Core.Logic.{_↔_};
-ghost use Prim.Native.Nat.{_≤_};
-ghost use Rattle.rows.specs.Rows.{rowsOf, rowOrder, isLess, SortedRows, onSwitch, passes, assignRow};
+ghost use Rattle.rows.specs.Rows.{rowOrder, onSwitch, passes, assignRow};
 
 pub struct Row {
     pub switch: u8,
@@ -20,36 +17,7 @@ pub struct Rows {
     pub len: usize,
 }
 
-impl Rows {
-    // Each row is less than the next.
-    pub fn in_order(self) -> bool
-        requires { ⌜ self .len ≤ 512 ⌝ }
-        ensures { λ r. ⌜ ((r ≡ true) ↔ SortedRows (rowsOf self)) ⌝ }
-    {
-        let n = self.len;
-        for i in 1..n {
-            let x = self.rows[i - 1];
-            let y = self.rows[i];
-            if !x.is_less(y) {
-                return false;
-            }
-        }
-        true
-    }
-}
-
 impl Row {
-    pub fn is_less(self, other: Row) -> bool
-        ensures { λ r. ⌜ r ≡ isLess (rowOrder self other) ⌝ }
-    {
-        let o = self.order(other);
-        match o {
-            Ordering::Less => true,
-            Ordering::Equal => false,
-            Ordering::Greater => false,
-        }
-    }
-
     // By switch, then in table order.
     pub fn order(self, other: Row) -> Ordering
         ensures { λ r. ⌜ r ≡ rowOrder self other ⌝ }

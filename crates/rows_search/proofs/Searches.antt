@@ -1,4 +1,4 @@
--- A row's place among rows, searched: by halving where they are in order, or from the front. Assumes nothing.
+-- A row's place among rows in order, searched by halving. Assumes nothing.
 use mathlib.Core.Path.{_≡_, refl, sym, ap, _∙_}
 use mathlib.Core.Bool.{false}
 use mathlib.Core.List.{List, [], _∷_, _++_}
@@ -7,29 +7,22 @@ use native.Mathlib.Nat.{add-zero}
 use native.Mathlib.Numerals.{add-one}
 use native.Mathlib.Omega.{arith}
 use lib.ListN.{length, take, drop, getD, drop-of-length-le}
-use lib.Seq.{drop-cons, take-suc, length-take-le, append-snoc, getD-take}
+use lib.Seq.{drop-cons, length-take-le, getD-take}
+use Rattle.basics.specs.Searches.{size}
 use Rattle.flow.specs.Orders.{opposite}
 use Rattle.rows.specs.Types.{Ordering}
 use Rattle.rows.specs.declared.row.Row.{Row}
 use Rattle.rows.specs.Rows.{rowOrder, SortedRows, insertRow}
 use Rattle.rows.proofs.RowOrder.{row-turn, row-chain, row-greater}
-use Rattle.rows.proofs.InOrder.{before-at}
+use Rattle.rows.proofs.RowLaws.{before-at}
 use Rattle.rows_search.specs.declared.searching.Search.{Search}
-use Rattle.rows_search.specs.Searching.{bit, found, Placed, narrowedBy}
+use Rattle.rows_search.specs.Searching.{found, Placed, narrowedBy}
 
 -- the row goes past the rows before j
 abbrev pub Past : Row → List Row → ℕ → Type 0
 Past a rs j = (insertRow a rs ≡ take j rs ++ insertRow a (drop j rs)) × (found a rs ≡ found a (drop j rs))
 
--- a row that is greater than the one at m, and past those before it, goes past it
-past-next : (a : Row) (rs : List Row) (m : ℕ) (d : Row) → m < length rs → rowOrder a (getD rs m d) ≡ Ordering.Greater → Past a rs m → Past a rs (suc m)
-unfolding insertRow found
-past-next a rs m d h o p = (
-  p .0 ∙ ap (λ s. take m rs ++ insertRow a s) (drop-cons rs m d h) ∙ rw (o, take-suc rs m d h, append-snoc) refl,
-  p .1 ∙ ap (found a) (drop-cons rs m d h) ∙ rw o refl,
-)
-
--- among rows in order it goes past all before it too
+-- a row that is greater than the one at m of rows in order goes past it and all before it
 past-sorted : (a : Row) (rs : List Row) (m : ℕ) (d : Row) → m < length rs → rowOrder a (getD rs m d) ≡ Ordering.Greater → SortedRows rs → Past a rs (suc m)
 unfolding insertRow found
 past-sorted a [] m d h o s = absurd (omega arith)
@@ -45,9 +38,9 @@ past-sorted a (x ∷ xs) (suc m) d h o s =
 pub record Searched (a : Row) (l : List Row) (n : ℕ) (s : Search) : Type 0 where
   pub fits : n ≤ length l
   narrows : s .low ≤ s .at
-  pub within : s .at + bit (s .same) ≤ n
+  pub within : s .at + size (s .same) ≤ n
   pub past : Past a (take n l) (s .low)
-  pub puts : insertRow a (drop (s .at) (take n l)) ≡ a ∷ drop (s .at + bit (s .same)) (take n l)
+  pub puts : insertRow a (drop (s .at) (take n l)) ≡ a ∷ drop (s .at + size (s .same)) (take n l)
   pub tells : found a (drop (s .at) (take n l)) ≡ s .same
 
 -- each comparison leaves less to search
@@ -77,9 +70,9 @@ module _ (a : Row) (l : List Row) (n : ℕ) where
       under : m < length (take n l)
       under = omega (arith, k .within, length-take-le n l (k .fits))
 
-      narrower : (o : Ordering) → rowOrder a (getD (take n l) m d) ≡ o → (rowOrder a (getD (take n l) m d) ≡ Ordering.Greater → Past a (take n l) (suc m)) → Searched a l n (narrowedBy o s m)
+      narrower : (o : Ordering) → rowOrder a (getD (take n l) m d) ≡ o → SortedRows (take n l) → Searched a l n (narrowedBy o s m)
       unfolding insertRow found narrowedBy
-      narrower Ordering.Less e p =
+      narrower Ordering.Less e z =
           let here = drop-cons (take n l) m d under in
           record {
             fits = k .fits;
@@ -89,7 +82,7 @@ module _ (a : Row) (l : List Row) (n : ℕ) where
             puts = rw (add-zero, here, e) refl;
             tells = rw (here, e) refl;
           }
-      narrower Ordering.Equal e p =
+      narrower Ordering.Equal e z =
           let here = drop-cons (take n l) m d under in
           record {
             fits = k .fits;
@@ -99,26 +92,17 @@ module _ (a : Row) (l : List Row) (n : ℕ) where
             puts = rw (add-one, here, e) refl;
             tells = rw (here, e) refl;
           }
-      narrower Ordering.Greater e p = record {
+      narrower Ordering.Greater e z = record {
         fits = k .fits;
         narrows = omega arith;
         within = k .within;
-        past = rw add-one (p e);
+        past = rw add-one (past-sorted a (take n l) m d under e z);
         puts = k .puts;
         tells = k .tells;
       }
 
-      module _ {r : Search} (q : r ≡ narrowedBy (rowOrder a (getD l m d)) s m) where
-        compared : rowOrder a (getD (take n l) m d) ≡ rowOrder a (getD l m d)
-        compared = ap (rowOrder a) (getD-take n l m d (omega (arith, k .within)))
-
-        -- of rows in order
-        pub search-turn : SortedRows (take n l) → Searched a l n r
-        search-turn z = rw q (narrower (rowOrder a (getD l m d)) compared (λ f. past-sorted a (take n l) m d under f z))
-
-        -- with the first row that is left
-        pub search-next : m ≡ s .low → Searched a l n r
-        search-next z = rw q (narrower (rowOrder a (getD l m d)) compared (λ f. past-next a (take n l) m d under f (rw z (k .past))))
+      pub search-turn : {r : Search} → r ≡ narrowedBy (rowOrder a (getD l m d)) s m → SortedRows (take n l) → Searched a l n r
+      search-turn q z = rw q (narrower (rowOrder a (getD l m d)) (ap (rowOrder a) (getD-take n l m d (omega (arith, k .within)))) z)
 
     pub search-end : s .at ≤ s .low → Placed a l n (s .at) (s .same)
     search-end h =

@@ -4,15 +4,12 @@ use mathlib.Core.Bool.{Bool, true, false}
 use mathlib.Core.List.{List, [], _∷_, _++_}
 use Prim.Native.Nat.{ℕ, _+_, _≤_}
 use lib.ListN.{take, drop}
+use Rattle.basics.specs.Searches.{size}
 use Rattle.rows.specs.Types.{Ordering}
 use Rattle.rows.specs.declared.row.Row.{Row}
 use Rattle.rows.specs.Rows.{rowOrder, insertRow}
 use Rattle.rows_search.specs.declared.searching.Search.{Search}
 use Rattle.rows_search.specs.declared.searching.Room.{Room}
-
-abbrev pub bit : Bool → ℕ
-bit true = 1
-bit false = 0
 
 -- the search stops at a row with r's switch and key
 abbrev pub foundBy : Ordering → Bool → Bool
@@ -26,8 +23,8 @@ found r (x ∷ xs) = foundBy (rowOrder r x) (found r xs)
 
 -- r goes to index i of the first n rows, over the row there if that has its switch and key
 pub record Placed (r : Row) (l : List Row) (n i : ℕ) (same : Bool) : Type 0 where
-  pub within : i + bit same ≤ n
-  pub puts : insertRow r (take n l) ≡ take i (take n l) ++ r ∷ drop (i + bit same) (take n l)
+  pub within : i + size same ≤ n
+  pub puts : insertRow r (take n l) ≡ take i (take n l) ++ r ∷ drop (i + size same) (take n l)
   pub tells : same ≡ found r (take n l)
 
 -- what is left to search, by how the row compares with that at the middle

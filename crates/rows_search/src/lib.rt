@@ -1,6 +1,4 @@
-// The place of a row among the rows of all switches, searched, and the row put there.
-pub mod placing;
+// The place of a row among the sorted rows of all switches, searched by halving, and the room for it.
 pub mod searching;
 
-pub use placing::insert;
 pub use searching::Search;

@@ -12,30 +12,12 @@ use Rattle.flow.specs.Entries.{sameKey}
 use Rattle.basics.proofs.Booleans.{split}
 use Rattle.flow_table.specs.FlowTable.{inside, clash, anyOf, tableEffect, after, answer}
 use Rattle.flow_table.specs.Switches.{stepOf, replyOf}
-use Rattle.rows.specs.Types.{Entry, TableOperation, Operation, Answer}
+use Rattle.rows.specs.Types.{TableOperation, Operation, Answer}
 use Rattle.rows.specs.declared.row.Row.{Row}
-use Rattle.rows.specs.Rows.{row, SortedRows, tableOf, tablesOf, insertRow, assignRows, anyRow, onSwitch}
+use Rattle.rows.specs.Rows.{row, SortedRows, tableOf, tablesOf, anyRow, onSwitch}
 use Rattle.rows_step.specs.Stepping.{tableStep, stepRows, tableReply, replyRows}
 use Rattle.rows.proofs.RowLaws.{sorted-insert, sorted-remove, sorted-assign, length-insert, length-remove, length-assign}
 use Rattle.rows.proofs.TablesOf.{table-insert, table-remove, table-assign, table-any}
-
--- what the operations that ask do, by the answer
-module _ (w : ℕ) (e : Entry) (rs : List Row) where
-  pub checked-refused : anyRow (onSwitch w (clash (e .key))) rs ≡ true → tableStep w (TableOperation.AddChecked e) rs ≡ rs
-  unfolding tableStep
-  checked-refused q = rw q refl
-
-  pub checked-added : anyRow (onSwitch w (clash (e .key))) rs ≡ false → tableStep w (TableOperation.AddChecked e) rs ≡ insertRow (row w e) rs
-  unfolding tableStep
-  checked-added q = rw q refl
-
-  pub modify-assigned : anyRow (onSwitch w (inside (e .key .pattern))) rs ≡ true → tableStep w (TableOperation.Modify e) rs ≡ assignRows (onSwitch w (inside (e .key .pattern))) (e .action) rs
-  unfolding tableStep
-  modify-assigned q = rw q refl
-
-  pub modify-added : anyRow (onSwitch w (inside (e .key .pattern))) rs ≡ false → tableStep w (TableOperation.Modify e) rs ≡ insertRow (row w e) rs
-  unfolding tableStep
-  modify-added q = rw q refl
 
 -- ---- the tables
 cond-idle : {A : Type 0} (b : Bool) (x : A) → x ≡ cond b x x

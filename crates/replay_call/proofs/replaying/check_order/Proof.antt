@@ -11,7 +11,7 @@ run-order-requires : tie.Need-run-order-requires
 run-order-requires c κs =
     let d = c .before .before in
     let s = d .before .before .before .before .before .before .before .before in
-    (s .pre .0, s .pre .1, order-short (eventsOf (s .args .t)) (now (s .args .order)) (events-few (s .args .t) (s .pre .0)) (sym (ap asRefusal (d .enum-told .given .1)) ∙ d .before .before .order-refusal .ensures))
+    (s .pre .0, s .pre .1, order-short (eventsOf (s .args .t)) (now (s .args .order)) (events-few (s .args .t) (s .pre .0)) (sym (ap asRefusal (d .enum-told .given .1)) ∙ d .before .before .order-refusal .ensures), s .pre .2)
 
 returns : tie.Need-returns
 returns c = order-refused _ _ _ _ _ (sym (ap asRefusal (c .before .answer .given .1)) ∙ c .before .before .before .order-refusal .ensures)

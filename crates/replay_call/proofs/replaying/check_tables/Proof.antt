@@ -1,10 +1,18 @@
 use mathlib.Core.Path.{sym, ap, _∙_}
 use Rattle.rows.specs.Rows.{rowsOf}
 use Rattle.tables_text.specs.TableText.{asOutcome}
+use Rattle.tables_text.proofs.Accepted.{accepted-sorted}
 use Rattle.replay_call.proofs.Leaving.{text-refused, text-accepted}
 use borrow.Author.Needs.{needs}
 use Rattle.replay_call.proofs.replaying.check_tables.Statement.{statement}
 use Rattle.replay_call.proofs.replaying.check_tables.Tie as tie
+
+check-order-requires : tie.Need-check-order-requires
+check-order-requires c κs =
+    let d = c .before .before in
+    let read = d .before .before .before .read-tables in
+    let s = d .before .before .before .before .before .before .before .before in
+    (s .pre, read .ensures .1, accepted-sorted _ _ (sym (sym (ap (λ o. asOutcome o (rowsOf (read .result .rows))) (d .enum-told .given .1)) ∙ read .ensures .0)))
 
 returns : tie.Need-returns
 returns c =
@@ -20,6 +28,7 @@ returns-2 c =
 pub check-tables-spec : {M : Type 1} → statement M
 check-tables-spec =
     tie.close
-    (tie.spec (λ c κs. search needs) (λ c. search needs) (λ c. search needs) (λ c κs. search needs)
+    (tie.spec (λ c κs. search needs) (λ c. search needs) (λ c. search needs)
+    check-order-requires
     returns (λ c. search needs) (λ c. search needs)
     returns-2)

@@ -1,0 +1,124 @@
+-- What a pass over the rows does, and the work of each operation: what the pass and the row put in after it leave and answer is what the
+-- event does. Assumes nothing.
+use mathlib.Core.Path.{_≡_, refl, sym, _∙_, ap}
+use mathlib.Core.Bool.{Bool, true, false, not, cond}
+use mathlib.Core.List.{List, [], _∷_}
+use Prim.Native.Nat.{ℕ}
+use lib.Dec.{eqb}
+use Rattle.basics.proofs.Booleans.{split, and-false-right, or-left, or-right}
+use Rattle.flow_table.specs.FlowTable.{inside, clash, admits}
+use Rattle.rows.specs.Rows.{row, SortedRows, insertRow, removeRows, assignRow, assignRows, anyRow, onSwitch, passes}
+use Rattle.rows.proofs.RowLaws.{sorted-remove, sorted-assign}
+use Rattle.rows_step.specs.Types.{Packet, Entry, TableOperation, Operation, Answer, Row, Filter, Change, Put}
+use Rattle.rows_step.specs.Stepping.{tableStep, stepRows, tableReply, replyRows}
+use Rattle.rows_step.specs.Inner.{changed, isDropped, treated, seen, seenRows, withPut, WorkFor}
+use Rattle.rows_step.proofs.Lookups.{lookup-best}
+
+-- ---- a pass, row by row
+module _ (p : Row → Bool) where
+  pub none-changed : (c : Change) → changed c p [] ≡ []
+  unfolding changed removeRows assignRows
+  none-changed Change.Keep = refl
+  none-changed Change.Drop = refl
+  none-changed (Change.Assign a) = refl
+
+  pub row-changed : (c : Change) (x : Row) (xs : List Row) → changed c p (x ∷ xs) ≡ cond (isDropped c (p x)) (changed c p xs) (treated c (p x) x ∷ changed c p xs)
+  unfolding changed removeRows assignRows
+  row-changed Change.Keep x xs = refl
+  row-changed Change.Drop x xs = refl
+  row-changed (Change.Assign a) x xs = refl
+
+  pub sorted-changed : (c : Change) (rs : List Row) → SortedRows rs → SortedRows (changed c p rs)
+  unfolding changed
+  sorted-changed Change.Keep rs s = s
+  sorted-changed Change.Drop rs s = sorted-remove p rs s
+  sorted-changed (Change.Assign a) rs s = sorted-assign p a rs s
+
+  -- a row that does not pass stays
+  not-chosen : (c : Change) (x : Row) (ys : List Row) → cond (isDropped c false) ys (treated c false x ∷ ys) ≡ x ∷ ys
+  unfolding assignRow
+  not-chosen Change.Keep x ys = refl
+  not-chosen Change.Drop x ys = refl
+  not-chosen (Change.Assign a) x ys = refl
+
+  -- where no row passes, all stay
+  pub none-pass : (c : Change) (rs : List Row) → anyRow p rs ≡ false → changed c p rs ≡ rs
+  unfolding anyRow
+  none-pass c [] h = none-changed c
+  none-pass c (x ∷ xs) h =
+      row-changed c x xs ∙ rw (or-left (p x) (anyRow p xs) h) (not-chosen c x (changed c p xs))
+      ∙ ap (λ ys. x ∷ ys) (none-pass c xs (or-right (p x) (anyRow p xs) h))
+
+-- ---- the answer
+module _ (q : Row → Bool) where
+  pub none-seen : (a : Answer) (rs : List Row) → anyRow q rs ≡ false → seenRows q a rs ≡ a
+  unfolding anyRow seenRows
+  none-seen a [] h = refl
+  none-seen a (x ∷ xs) h = rw (or-left (q x) (anyRow q xs) h) (none-seen a xs (or-right (q x) (anyRow q xs) h))
+
+  -- an answer that a row that passes leaves stays
+  stays : (a : Answer) → ((e : Entry) → seen a e ≡ a) → (rs : List Row) → seenRows q a rs ≡ a
+  unfolding seenRows
+  stays a h [] = refl
+  stays a h (x ∷ xs) = split (q x) (λ u. rw (u, h (x .entry)) (stays a h xs)) (λ u. rw u (stays a h xs))
+
+  silent-stays : (rs : List Row) → Answer.Silent ≡ seenRows q Answer.Silent rs
+  unfolding seen
+  silent-stays rs = sym (stays Answer.Silent (λ e. refl) rs)
+
+  -- done unless a row passes
+  done-unless : (rs : List Row) → seenRows q (Answer.Done true) rs ≡ Answer.Done (not (anyRow q rs))
+  unfolding seenRows seen anyRow
+  done-unless [] = refl
+  done-unless (x ∷ xs) = split (q x) (λ u. rw u (stays (Answer.Done false) (λ e. refl) xs)) (λ u. rw u (done-unless xs))
+
+-- no row passes the empty filter
+pub nothing-passes : (w : ℕ) (rs : List Row) → anyRow (onSwitch w (passes Filter.Nothing)) rs ≡ false
+unfolding anyRow onSwitch
+nothing-passes w [] = refl
+nothing-passes w (x ∷ xs) = rw (and-false-right (eqb w (x .switch)) refl) (nothing-passes w xs)
+
+-- ---- the work of each operation
+-- nothing is asked
+pub putting-work : (o : Operation) (p : Put) → ((rs : List Row) → stepRows o rs ≡ withPut p rs) → ((rs : List Row) → replyRows o rs ≡ Answer.Silent)
+    → WorkFor o (record { switch = 0; filter = Filter.Nothing; change = Change.Keep; put = p; answer = Answer.Silent })
+unfolding changed
+putting-work o p f g = record {
+  fresh = refl;
+  rows = λ rs. f rs ∙ rw (nothing-passes 0 rs) refl;
+  reply = λ rs. g rs ∙ silent-stays _ rs;
+}
+
+pub packet-work : (w : ℕ) (p : Packet) → WorkFor (Operation.Table w (TableOperation.Packet p)) (record { switch = w; filter = Filter.Fits p; change = Change.Keep; put = Put.Nothing; answer = Answer.Miss })
+unfolding changed stepRows tableStep replyRows tableReply
+packet-work w p = record {
+  fresh = refl;
+  rows = λ rs. split (anyRow (onSwitch w (admits p)) rs) (λ u. rw u refl) (λ u. rw u refl);
+  reply = λ rs. sym (lookup-best w p rs);
+}
+
+pub checked-work : (w : ℕ) (e : Entry) → WorkFor (Operation.Table w (TableOperation.AddChecked e)) (record { switch = w; filter = Filter.Clash (e .key); change = Change.Keep; put = Put.One (row w e); answer = Answer.Done true })
+unfolding changed stepRows tableStep replyRows tableReply
+checked-work w e = record {
+  fresh = refl;
+  rows = λ rs. split (anyRow (onSwitch w (clash (e .key))) rs) (λ u. rw u refl) (λ u. rw u refl);
+  reply = λ rs. sym (done-unless _ rs);
+}
+
+pub modify-work : (w : ℕ) (e : Entry) → WorkFor (Operation.Table w (TableOperation.Modify e)) (record { switch = w; filter = Filter.Within (e .key .pattern); change = Change.Assign (e .action); put = Put.One (row w e); answer = Answer.Silent })
+unfolding changed stepRows tableStep replyRows tableReply
+modify-work w e = record {
+  fresh = refl;
+  rows = λ rs. split (anyRow (onSwitch w (inside (e .key .pattern))) rs) (λ u. rw u refl) (λ u. rw u (ap (insertRow (row w e)) (sym (none-pass _ (Change.Assign (e .action)) rs u))));
+  reply = λ rs. silent-stays _ rs;
+}
+
+-- the rows of switch w that pass are dropped
+pub removing-work : (o : Operation) (w : ℕ) (f : Filter) → ((rs : List Row) → stepRows o rs ≡ removeRows (onSwitch w (passes f)) rs) → ((rs : List Row) → replyRows o rs ≡ Answer.Silent)
+    → WorkFor o (record { switch = w; filter = f; change = Change.Drop; put = Put.Nothing; answer = Answer.Silent })
+unfolding changed
+removing-work o w f s g = record {
+  fresh = refl;
+  rows = λ rs. s rs ∙ split (anyRow (onSwitch w (passes f)) rs) (λ u. rw u refl) (λ u. rw u refl);
+  reply = λ rs. g rs ∙ silent-stays _ rs;
+}

@@ -1,0 +1,51 @@
+-- Checks one after the other: what a sequence says, by what its first check says. Assumes nothing.
+use mathlib.Core.Path.{_≡_, refl}
+use mathlib.Core.Logic.{_⊎_, inl, inr}
+use mathlib.Core.Option.{Option, none, some}
+use Prim.Native.Nat.{ℕ}
+use native.Mathlib.Omega.{arith}
+use Rattle.refusals.specs.Types.{Refusal, Outcome}
+use Rattle.refusals.specs.Checks.{Checked, _▹_, refuseAt, outcomeOf}
+
+-- a refusal is no value
+pub not-handed : {A P : Type 0} {r : Refusal} {a : A} → _≡_ {A = Checked A} (inl r) (inr a) → P
+not-handed e = let z : _≡_ {A = ℕ} 0 1 = cc in absurd (omega arith)
+
+pub not-refused : {A P : Type 0} {r : Refusal} {a : A} → _≡_ {A = Checked A} (inr a) (inl r) → P
+not-refused e = let z : _≡_ {A = ℕ} 0 1 = cc in absurd (omega arith)
+
+pub same-refusal : {A : Type 0} {q r : Refusal} → _≡_ {A = Checked A} (inl q) (inl r) → q ≡ r
+same-refusal e = cc
+
+pub same-value : {A : Type 0} {a b : A} → _≡_ {A = Checked A} (inr a) (inr b) → a ≡ b
+same-value e = cc
+
+module _ {A B : Type 0} where
+  -- a sequence hands a value on: its first check did
+  pub handed-on : (x : Checked A) (next : A → Checked B) {b : B} → (x ▹ next) ≡ inr b → (a : A) × (x ≡ inr a) × (next a ≡ inr b)
+  handed-on (inl r) next e = not-handed e
+  handed-on (inr a) next e = (a, refl, e)
+
+  -- a sequence refuses: its first check does, or hands a value on to what does
+  pub refused-by : {G : Type 0} (x : Checked A) (next : A → Checked B) {r : Refusal} → (x ▹ next) ≡ inl r
+      → (x ≡ inl r → G) → ((a : A) → x ≡ inr a → next a ≡ inl r → G) → G
+  refused-by (inl q) next e f g = f (rw (same-refusal e))
+  refused-by (inr a) next e f g = g a refl e
+
+  -- a sequence whose first check is known by the code's outcome
+  module _ (o : Outcome) (a : A) {x : Checked A} (next : A → Checked B) (e : outcomeOf o a ≡ x) where
+    pub on-refused : {r : Refusal} → o ≡ Outcome.Refused r → inl r ≡ (x ▹ next)
+    on-refused p = rw (← e, p)
+
+    pub on-accepted : o ≡ Outcome.Accepted → next a ≡ (x ▹ next)
+    on-accepted p = rw (← e, p)
+
+-- a search that finds nothing, where its check hands on
+pub nothing-found : (x : Option ℕ) (r : ℕ → Refusal) {a : Unit {0}} → refuseAt x r ≡ inr a → x ≡ none
+nothing-found none r e = refl
+nothing-found (some j) r e = not-handed e
+
+-- what a check that refuses found
+pub found-at : (x : Option ℕ) (r : ℕ → Refusal) {q : Refusal} → refuseAt x r ≡ inl q → (j : ℕ) × (x ≡ some j) × (q ≡ r j)
+found-at none r e = not-refused e
+found-at (some j) r e = (j, refl, cc)

@@ -105,3 +105,10 @@ module _ (P : ℕ → Type 0) (p : ℕ → Bool) (iff : (j : ℕ) → (p j ≡ t
 
     pub lowest-none : lowest p n ≡ none → (j : ℕ) → j < n → P j → ⊥
     lowest-none h = rw h at (says n)
+
+    pub lowest-absent : ((j : ℕ) → j < n → P j → ⊥) → lowest p n ≡ none
+    lowest-absent h = go (lowest p n) refl (says n)
+      where
+        go : (x : Option ℕ) → lowest p n ≡ x → Says n x → lowest p n ≡ none
+        go none e w = e
+        go (some j) e w = absurd (h j (w .inside) (w .here))

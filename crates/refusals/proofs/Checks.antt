@@ -1,11 +1,12 @@
 -- Checks one after the other: what a sequence says, by what its first check says. Assumes nothing.
 use mathlib.Core.Path.{_≡_, refl}
-use mathlib.Core.Logic.{_⊎_, inl, inr}
+use mathlib.Core.Logic.{inl, inr}
 use mathlib.Core.Option.{Option, none, some}
 use Prim.Native.Nat.{ℕ}
 use native.Mathlib.Omega.{arith}
+use Rattle.text_lines.specs.declared.limits.Limit.{Limit}
 use Rattle.refusals.specs.Types.{Refusal, Outcome}
-use Rattle.refusals.specs.Checks.{Checked, _▹_, refuseAt, outcomeOf}
+use Rattle.refusals.specs.Checks.{Checked, _▹_, refuseAt, refuseLimit, outcomeOf}
 
 -- a refusal is no value
 pub not-handed : {A P : Type 0} {r : Refusal} {a : A} → _≡_ {A = Checked A} (inl r) (inr a) → P
@@ -49,3 +50,10 @@ nothing-found (some j) r e = not-handed e
 pub found-at : (x : Option ℕ) (r : ℕ → Refusal) {q : Refusal} → refuseAt x r ≡ inl q → (j : ℕ) × (x ≡ some j) × (q ≡ r j)
 found-at none r e = not-refused e
 found-at (some j) r e = (j, refl, cc)
+
+-- a text within its limits
+pub limit-kept : (l : Limit) (long unended many : Refusal) {a : Unit {0}} → refuseLimit l long unended many ≡ inr a → l ≡ Limit.Kept
+limit-kept Limit.TooLong long unended many e = not-handed e
+limit-kept Limit.Unended long unended many e = not-handed e
+limit-kept Limit.TooManyLines long unended many e = not-handed e
+limit-kept Limit.Kept long unended many e = refl

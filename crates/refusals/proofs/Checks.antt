@@ -2,11 +2,14 @@
 use mathlib.Core.Path.{_≡_, refl}
 use mathlib.Core.Logic.{inl, inr}
 use mathlib.Core.Option.{Option, none, some}
-use Prim.Native.Nat.{ℕ}
+use mathlib.Core.List.{List}
+use Prim.Native.Nat.{ℕ, _<_, _≤_}
+use lib.ListN.{length}
+use borrow.Author.Tests.{lt-ltb, le-ltb}
 use native.Mathlib.Omega.{arith}
 use Rattle.text_lines.specs.declared.limits.Limit.{Limit}
 use Rattle.refusals.specs.Types.{Refusal, Outcome}
-use Rattle.refusals.specs.Checks.{Checked, _▹_, refuseAt, refuseLimit, outcomeOf}
+use Rattle.refusals.specs.Checks.{Checked, _▹_, refuseAt, refuseLimit, refuseShort, outcomeOf}
 
 -- a refusal is no value
 pub not-handed : {A P : Type 0} {r : Refusal} {a : A} → _≡_ {A = Checked A} (inl r) (inr a) → P
@@ -57,3 +60,11 @@ limit-kept Limit.TooLong long unended many e = not-handed e
 limit-kept Limit.Unended long unended many e = not-handed e
 limit-kept Limit.TooManyLines long unended many e = not-handed e
 limit-kept Limit.Kept long unended many e = refl
+
+-- the room for a text, by the code's test
+module _ (room : ℕ) (text : List ℕ) (r : ℕ → Refusal) where
+  pub short-refused : room < length text → refuseShort room text r ≡ inl (r (length text))
+  short-refused h = rw (lt-ltb room (length text) h)
+
+  pub short-passed : length text ≤ room → refuseShort room text r ≡ inr tt
+  short-passed h = rw (le-ltb room (length text) h)

@@ -9,11 +9,11 @@ use mathlib.Core.List.{List}
 use lib.Dec.{ltb}
 use lib.ListN.{length, length-append}
 use borrow.Author.Tests.{le-ltb}
 use Rattle.list_pairs.specs.List.{test, Pair, cell, pairsWhere, count}
 use Rattle.list_verdicts.specs.Kinds.{Kind}
 use Rattle.basics.specs.Searches.{gather, size}
 use Rattle.basics.proofs.Gathered.{size-only}
-use Rattle.list_call.specs.Types.{Event}
+use Rattle.list_pairs.specs.Types.{Event}
 
 size-most : (b : Bool) → size b ≤ 1
 size-most true = omega arith

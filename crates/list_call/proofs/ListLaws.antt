@@ -3,18 +3,17 @@ use Prim.Native.Nat.{ℕ, _<_, _≤_}
 use native.Mathlib.Omega.{arith}
 use mathlib.Core.Path.{_≡_, refl, sym, ap, _∙_}
 use mathlib.Core.List.{List, _++_}
-use mathlib.Core.Logic.{inl, inr}
 use lib.ListN.{length, take, drop}
 use lib.Seq.{length-take-le, take-all}
-use Rattle.refusals.specs.Checks.{Checked, _▹_, written}
+use Rattle.refusals.specs.Checks.{Checked, written}
 use Rattle.refusals.proofs.Checks.{on-refused, on-accepted, short-refused, short-passed}
 use Rattle.trace_events.specs.Events.{eventsOf}
 use Rattle.trace_text.specs.TraceText.{readTrace, asTrace}
 use Rattle.list_pairs.specs.List.{listOf, pairBytes, Listing, listingOf}
 use Rattle.list_pairs.specs.Inner.{Holds}
-use Rattle.call_answers.specs.Answers.{asCounts}
+use Rattle.basics.specs.Text.{startingWith}
 use Rattle.list_call.specs.Types.{Event, Counts, Refusal, ListAnswer, ListBuffer, Outcome, TraceRead}
-use Rattle.list_call.specs.Races.{listRaces, listAnswer, listBuffer}
+use Rattle.list_call.specs.Races.{listRaces, listAnswer, listOut}
 use Rattle.list_call.specs.Inner.{fitted, Lists}
 
 -- ---- the list in a buffer of its own
@@ -31,7 +30,7 @@ module _ (es : List Event) (b : ListBuffer) (h : Holds es b) where
     unfolding fitted
     list-short l =
         let t = short-refused (length old) (pairBytes (listOf es)) Refusal.ListShort (omega (arith, needed-is)) in
-        rw t (record { answer = ap (λ (n : ℕ). inl (Refusal.ListShort n)) needed-is; buffer = refl })
+        rw t (record { answer = ap (λ (n : ℕ). ListAnswer.Refused (Refusal.ListShort n)) needed-is; buffer = refl })
 
     pub list-done : (src out : List ℕ) → b .length ≤ length old → src ≡ take (b .length) (b .bytes) → out ≡ take (length src) src ++ drop (length src) old
         → Lists (fitted es (length old)) (ListAnswer.Counts (b .counts)) old out
@@ -40,23 +39,23 @@ module _ (es : List Event) (b : ListBuffer) (h : Holds es b) where
         let t = short-passed (length old) (pairBytes (listOf es)) Refusal.ListShort (omega (arith, needed-is)) in
         let w : src ≡ pairBytes (listOf es) = s ∙ listed-bytes in
         rw t (record {
-          answer = ap (λ (l : Listing). inr (l .counts)) (h .listing);
-          buffer = o ∙ ap (λ (x : List ℕ). x ++ drop (length src) old) (take-all (length src) src (omega arith)) ∙ ap (λ (x : List ℕ). x ++ drop (length x) old) w;
+          answer = ap (λ (l : Listing). ListAnswer.Counts (l .counts)) (h .listing);
+          buffer = o ∙ ap (λ (x : List ℕ). x ++ drop (length src) old) (take-all (length src) src (omega arith)) ∙ ap (λ (x : List ℕ). startingWith x old) w;
         })
 
 -- ---- the call on a text, by the outcome of reading it
 module _ (text : List ℕ) (read : TraceRead) (e : asTrace read ≡ readTrace text) (old : List ℕ) where
-  -- what the code left, where it is what is made of the text
-  called : {x : Checked Listing} {r : ListAnswer} {out : List ℕ} → x ≡ listRaces text (length old) → Lists x r old out
-      → (asCounts r ≡ listAnswer text (length old)) × (out ≡ listBuffer text old)
-  unfolding listAnswer listBuffer
-  called g l = (l .answer ∙ ap (λ (y : Checked Listing). y ▹ λ l. inr (l .counts)) g, l .buffer ∙ ap (λ (y : Checked Listing). written (y ▹ λ l. inr (l .bytes)) old) g)
+  -- an answer and a buffer that are as the call leaves them
+  abbrev pub Called : ListAnswer → List ℕ → Type 0
+  Called r out = (r ≡ listAnswer (listRaces text (length old))) × (out ≡ written (listOut (listRaces text (length old))) old)
 
-  pub call-refused : (r : Refusal) → read .outcome ≡ Outcome.Refused r → (asCounts (ListAnswer.Refused r) ≡ listAnswer text (length old)) × (old ≡ listBuffer text old)
+  called : {y : Checked Listing} {r : ListAnswer} {out : List ℕ} → y ≡ listRaces text (length old) → Lists y r old out → Called r out
+  called g l = (l .answer ∙ ap listAnswer g, l .buffer ∙ ap (λ (y : Checked Listing). written (listOut y) old) g)
+
+  pub call-refused : (r : Refusal) → read .outcome ≡ Outcome.Refused r → Called (ListAnswer.Refused r) old
   unfolding listRaces fitted
-  call-refused r f = called {r = ListAnswer.Refused r} (on-refused _ (eventsOf (read .trace)) (λ es. fitted es (length old)) e f) (record { answer = refl; buffer = refl })
+  call-refused r f = called (on-refused _ (eventsOf (read .trace)) (λ es. fitted es (length old)) e f) (record { answer = refl; buffer = refl })
 
-  pub call-accepted : {r : ListAnswer} {out : List ℕ} → read .outcome ≡ Outcome.Accepted → Lists (fitted (eventsOf (read .trace)) (length old)) r old out
-      → (asCounts r ≡ listAnswer text (length old)) × (out ≡ listBuffer text old)
+  pub call-accepted : {r : ListAnswer} {out : List ℕ} → read .outcome ≡ Outcome.Accepted → Lists (fitted (eventsOf (read .trace)) (length old)) r old out → Called r out
   unfolding listRaces fitted
   call-accepted f l = called (on-accepted _ (eventsOf (read .trace)) (λ es. fitted es (length old)) e f) l

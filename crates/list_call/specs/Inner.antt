@@ -3,10 +3,10 @@ use mathlib.Core.List.{List}
 use mathlib.Core.Logic.{inr}
 use mathlib.Core.Path.{_≡_}
 use Prim.Native.Nat.{ℕ}
-use Rattle.call_answers.specs.Answers.{asCounts}
 use Rattle.refusals.specs.Checks.{Checked, _▹_, refuseShort, written}
 use Rattle.list_pairs.specs.List.{listOf, pairBytes, Listing, listingOf}
 use Rattle.list_call.specs.Types.{Event, Refusal, ListAnswer}
+use Rattle.list_call.specs.Races.{listAnswer, listOut}
 
 -- 31, of the events of an accepted trace
 unfoldable pub fitted : List Event → ℕ → Checked Listing
@@ -15,6 +15,6 @@ fitted es room =
     inr (listingOf es)
 
 -- an answer and a buffer, before and after, are as the list call leaves them
-pub record Lists (x : Checked Listing) (r : ListAnswer) (old new : List ℕ) : Type 0 where
-  pub answer : asCounts r ≡ (x ▹ λ l. inr (l .counts))
-  pub buffer : new ≡ written (x ▹ λ l. inr (l .bytes)) old
+pub record Lists (y : Checked Listing) (r : ListAnswer) (old new : List ℕ) : Type 0 where
+  pub answer : r ≡ listAnswer y
+  pub buffer : new ≡ written (listOut y) old

@@ -7,8 +7,8 @@ ghost use mathlib.Core.Path.{_≡_};
 ghost use Prim.Native.Nat.{_≤_};
 ghost use lib.ListN.{length};
 ghost use Rattle.trace_events.specs.Events.{eventsOf};
-ghost use Rattle.call_answers.specs.Answers.{asCounts};
-ghost use Rattle.list_call.specs.Races.{listAnswer, listBuffer};
+ghost use Rattle.refusals.specs.Checks.{written};
+ghost use Rattle.list_call.specs.Races.{listRaces, listAnswer, listOut};
 ghost use Rattle.list_call.specs.Inner.{fitted, Lists};
 
 // 31 where the buffer is too short; else the list from its start.
@@ -29,8 +29,8 @@ fn put_list(t: Trace, out: &mut [u8]) -> ListAnswer
 
 // The list of a trace: the listed pairs from the buffer's start and the four counts, or what is refused.
 pub fn list_races(trace: &[u8], out: &mut [u8]) -> ListAnswer
-    ensures { λ r. ⌜ asCounts r ≡ listAnswer (now (trace .entry)) (length (now (out .entry))) ⌝ }
-    ensures { λ r. ⌜ now (out .exit) ≡ listBuffer (now (trace .entry)) (now (out .entry)) ⌝ }
+    ensures { λ r. ⌜ r ≡ listAnswer (listRaces (now (trace .entry)) (length (now (out .entry)))) ⌝ }
+    ensures { λ _. ⌜ now (out .exit) ≡ written (listOut (listRaces (now (trace .entry)) (length (now (out .entry))))) (now (out .entry)) ⌝ }
 {
     let read = trace_text::read_trace(trace);
     let outcome = read.outcome;

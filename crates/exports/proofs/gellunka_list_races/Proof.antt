@@ -1,8 +1,8 @@
 use mathlib.Core.Path.{ap, _∙_}
-use Rattle.exports.specs.Calls.{listAs}
+use Rattle.exports_values.specs.Values.{listAs}
 use borrow.Author.Needs.{needs}
-use Rattle.exports.proofs.list.gellunka_list_races.Statement.{statement}
-use Rattle.exports.proofs.list.gellunka_list_races.Tie as tie
+use Rattle.exports.proofs.gellunka_list_races.Statement.{statement}
+use Rattle.exports.proofs.gellunka_list_races.Tie as tie
 
 returns : tie.Need-returns
 returns c = (c .list-as .ensures ∙ ap (listAs _) (c .before .before .before .list-races .ensures .0), c .before .before .before .list-races .ensures .1)

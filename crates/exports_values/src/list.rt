@@ -1,10 +1,8 @@
-// The list call.
-use list_call::ListAnswer;
+// The answer of the list call.
+use call_answers::ListAnswer;
 use refusals::Refused;
 ghost use mathlib.Core.Path.{_≡_};
-ghost use lib.ListN.{length};
-ghost use Rattle.list_call.specs.Races.{listAnswer, listBuffer};
-ghost use Rattle.exports.specs.Calls.{listAs};
+ghost use Rattle.exports_values.specs.Values.{listAs};
 
 // The four counts, or what is refused.
 #[repr(C)]
@@ -16,7 +14,7 @@ pub struct Listed {
     pub listed: usize,
 }
 
-fn list_as(trace: &[u8], answer: ListAnswer) -> Listed
+pub fn list_as(trace: &[u8], answer: ListAnswer) -> Listed
     ensures { λ r. ⌜ r ≡ listAs (now (trace .entry)) answer ⌝ }
 {
     match answer {
@@ -41,15 +39,4 @@ fn list_as(trace: &[u8], answer: ListAnswer) -> Listed
             }
         }
     }
-}
-
-// The listed pairs of a trace, two bytes each, from the buffer's start. The bytes after them, or all after a refusal, stay as they
-// were.
-#[no_mangle]
-pub extern "C" fn gellunka_list_races(trace: &[u8], out: &mut [u8]) -> Listed
-    ensures { λ r. ⌜ r ≡ listAs (now (trace .entry)) (listAnswer (now (trace .entry)) (length (now (out .entry)))) ⌝ }
-    ensures { λ _. ⌜ now (out .exit) ≡ listBuffer (now (trace .entry)) (now (out .entry)) ⌝ }
-{
-    let answer = list_call::list_races(trace, out);
-    list_as(trace, answer)
 }

@@ -1,8 +1,8 @@
 use mathlib.Core.Path.{ap, _∙_}
-use Rattle.exports.specs.Calls.{replayAs}
+use Rattle.exports_values.specs.Values.{replayAs}
 use borrow.Author.Needs.{needs}
-use Rattle.exports.proofs.replayed.gellunka_replay.Statement.{statement}
-use Rattle.exports.proofs.replayed.gellunka_replay.Tie as tie
+use Rattle.exports.proofs.gellunka_replay.Statement.{statement}
+use Rattle.exports.proofs.gellunka_replay.Tie as tie
 
 returns : tie.Need-returns
 returns c =

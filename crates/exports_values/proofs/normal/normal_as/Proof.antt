@@ -1,7 +1,7 @@
-use Rattle.exports.proofs.Calls.{normal-written, normal-refused}
+use Rattle.exports_values.proofs.Values.{normal-written, normal-refused}
 use borrow.Author.Needs.{needs}
-use Rattle.exports.proofs.normal.normal_as.Statement.{statement}
-use Rattle.exports.proofs.normal.normal_as.Tie as tie
+use Rattle.exports_values.proofs.normal.normal_as.Statement.{statement}
+use Rattle.exports_values.proofs.normal.normal_as.Tie as tie
 
 returns : tie.Need-returns
 returns c = normal-written _ (c .before .before .answer .given .1) (c .nothing .ensures)

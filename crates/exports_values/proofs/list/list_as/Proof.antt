@@ -1,7 +1,7 @@
-use Rattle.exports.proofs.Calls.{list-counted, list-refused}
+use Rattle.exports_values.proofs.Values.{list-counted, list-refused}
 use borrow.Author.Needs.{needs}
-use Rattle.exports.proofs.list.list_as.Statement.{statement}
-use Rattle.exports.proofs.list.list_as.Tie as tie
+use Rattle.exports_values.proofs.list.list_as.Statement.{statement}
+use Rattle.exports_values.proofs.list.list_as.Tie as tie
 
 returns : tie.Need-returns
 returns c = list-counted _ (c .before .before .answer .given .1) (c .nothing .ensures)

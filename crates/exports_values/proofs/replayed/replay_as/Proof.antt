@@ -1,7 +1,7 @@
-use Rattle.exports.proofs.Calls.{replay-written, replay-refused}
+use Rattle.exports_values.proofs.Values.{replay-written, replay-refused}
 use borrow.Author.Needs.{needs}
-use Rattle.exports.proofs.replayed.replay_as.Statement.{statement}
-use Rattle.exports.proofs.replayed.replay_as.Tie as tie
+use Rattle.exports_values.proofs.replayed.replay_as.Statement.{statement}
+use Rattle.exports_values.proofs.replayed.replay_as.Tie as tie
 
 returns : tie.Need-returns
 returns c = replay-written _ _ (c .before .before .answer .given .1) (c .nothing .ensures)

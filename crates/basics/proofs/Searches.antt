@@ -3,14 +3,15 @@ use Prim.Native.Nat.{ℕ, zero, suc, _+_, _<_}
 use native.Mathlib.Nat.{eq-or-lt-of-le, le-of-suc-le-suc}
 use native.Mathlib.Numerals.{add-one}
 use mathlib.Core.Path.{_≡_, refl, sym, ap, _∙_}
-use mathlib.Core.Bool.{Bool, true, false, _&&_, false≢true, or-true}
-use mathlib.Core.Logic.{⊎-elim}
+use mathlib.Core.Bool.{Bool, true, false, _&&_, false≢true, true≢false, or-true}
+use mathlib.Core.Logic.{_↔_, ⊎-elim}
+use mathlib.Core.Option.{Option, none, some}
 use mathlib.Core.List.{List, [], _∷_}
 use native.Mathlib.Omega.{arith}
 use lib.Dec.{eqb}
 use borrow.Author.Tests.{eqb-true, eqb-false, eq-eqb}
 use Rattle.basics.proofs.Booleans.{split, and-left, and-right, and-intro, or-cases}
-use Rattle.basics.specs.Searches.{has, anyIn, anyBelow, allBelow, shares}
+use Rattle.basics.specs.Searches.{has, anyIn, anyBelow, allBelow, shares, orElse, lowest, Lowest}
 
 -- ---- some number below n
 -- two tests that agree below n
@@ -77,3 +78,37 @@ all-at p (suc n) i l h =
 pub all-of : (p : ℕ → Bool) (n : ℕ) → ((i : ℕ) → i < n → p i ≡ true) → allBelow p n ≡ true
 all-of p zero h = refl
 all-of p (suc n) h = and-intro (all-of p n (λ i l. h i (omega arith))) (h n (omega arith))
+
+-- ---- the lowest number below n
+-- what a search with a test finds, said of what the test stands for
+module _ (P : ℕ → Type 0) (p : ℕ → Bool) (iff : (j : ℕ) → (p j ≡ true) ↔ P j) where
+  abbrev Says : ℕ → Option ℕ → Type 0
+  Says n none = (j : ℕ) → j < n → P j → ⊥
+  Says n (some j) = Lowest P n j
+
+  says : (n : ℕ) → Says n (lowest p n)
+  unfolding lowest
+  says zero = λ j l w. omega arith
+  says (suc n) = go (lowest p n) (says n)
+    where
+      go : (x : Option ℕ) → Says n x → Says (suc n) (orElse x (p n) n)
+      go (some j) w = let h = w .inside in record { inside = omega arith; here = w .here; none-lower = w .none-lower }
+      go none w = split (p n)
+          (λ e. rw e (record { inside = omega arith; here = iff n .0 e; none-lower = w }))
+          (λ e. rw e (λ j l v. split (eqb j n)
+          (λ u. true≢false (sym (iff j .1 v) ∙ ap p (eqb-true j n u) ∙ e))
+          (λ u. let d = eqb-false j n u in w j (omega arith) v)))
+
+  module _ (n : ℕ) where
+    pub lowest-found : (j : ℕ) → lowest p n ≡ some j → Lowest P n j
+    lowest-found j h = rw h at (says n)
+
+    pub lowest-none : lowest p n ≡ none → (j : ℕ) → j < n → P j → ⊥
+    lowest-none h = rw h at (says n)
+
+    pub lowest-absent : ((j : ℕ) → j < n → P j → ⊥) → lowest p n ≡ none
+    lowest-absent h = go (lowest p n) refl (says n)
+      where
+        go : (x : Option ℕ) → lowest p n ≡ x → Says n x → lowest p n ≡ none
+        go none e w = e
+        go (some j) e w = absurd (h j (w .inside) (w .here))

@@ -2,7 +2,7 @@
 use mathlib.Core.Bool.{Bool, true, false, _&&_, _||_, cond}
 use mathlib.Core.List.{List, [], _∷_, _++_}
 use mathlib.Core.Option.{Option, none, some}
-use Prim.Native.Nat.{ℕ, zero, suc, _+_}
+use Prim.Native.Nat.{ℕ, zero, suc, _+_, _<_}
 use lib.Dec.{eqb}
 
 -- the number stands in the list
@@ -62,3 +62,9 @@ size false = 0
 abbrev pub countBelow : (ℕ → Bool) → ℕ → ℕ
 countBelow p zero = 0
 countBelow p (suc n) = countBelow p n + size (p n)
+
+-- the lowest number below n of which something holds
+pub record Lowest (P : ℕ → Type 0) (n j : ℕ) : Type 0 where
+  pub inside : j < n
+  pub here : P j
+  pub none-lower : (k : ℕ) → k < j → P k → ⊥

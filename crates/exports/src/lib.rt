@@ -1,4 +1,54 @@
-// The calls for other programs, on numbers and bytes. A refusal is a number, a place and where the refused line stands.
-pub mod list; // the list of a trace
-pub mod normal; // the normal form of a table text
-pub mod replayed; // an order of a trace's events, replayed
+// The calls for other programs: the answer of each call, as numbers.
+use exports_values::Listed;
+use exports_values::Normalised;
+use exports_values::Replayed;
+use exports_values::list_as;
+use exports_values::normal_as;
+use exports_values::replay_as;
+ghost use mathlib.Core.Path.{_≡_};
+ghost use lib.ListN.{length};
+ghost use Rattle.refusals.specs.Checks.{written};
+ghost use Rattle.exports_values.specs.Values.{listAs, normalAs, replayAs};
+ghost use Rattle.list_call.specs.Races.{listRaces, listAnswer, listOut};
+ghost use Rattle.tables_text.specs.Normal.{normalised};
+ghost use Rattle.replay_call.specs.Replay.{replayAnswer, tablesAfter, answersAfter};
+ghost use Rattle.exports.specs.Normal.{normalAnswer};
+
+// The listed pairs of a trace, two bytes each, from the buffer's start. The bytes after them, or all after a refusal, stay as they
+// were.
+#[no_mangle]
+pub extern "C" fn gellunka_list_races(trace: &[u8], out: &mut [u8]) -> Listed
+    ensures { λ r. ⌜ r ≡ listAs (now (trace .entry)) (listAnswer (listRaces (now (trace .entry)) (length (now (out .entry))))) ⌝ }
+    ensures { λ _. ⌜ now (out .exit) ≡ written (listOut (listRaces (now (trace .entry)) (length (now (out .entry))))) (now (out .entry)) ⌝ }
+{
+    let answer = list_call::list_races(trace, out);
+    list_as(trace, answer)
+}
+
+// The normal form of a table text, from the buffer's start. The bytes after it, or all after a refusal, stay as they were.
+#[no_mangle]
+pub extern "C" fn gellunka_normalise(tables: &[u8], out: &mut [u8]) -> Normalised
+    ensures { λ r. ⌜ r ≡ normalAs (now (tables .entry)) (normalAnswer (normalised (now (tables .entry)) (now (out .entry)) .0)) ⌝ }
+    ensures { λ _. ⌜ now (out .exit) ≡ normalised (now (tables .entry)) (now (out .entry)) .1 ⌝ }
+{
+    let answer = tables_text::normalise(tables, out);
+    normal_as(tables, answer)
+}
+
+// A trace's events in the given order, one byte for each event, from the tables of a text: the normalised end tables and the
+// answers, each from its buffer's start. The bytes after them, or all after a refusal, stay as they were.
+#[no_mangle]
+pub extern "C" fn gellunka_replay<'a>(
+    trace: &'a [u8],
+    tables: &'a [u8],
+    order: &[u8],
+    out: &mut [u8],
+    replies: &mut [u8],
+) -> Replayed
+    ensures { λ r. ⌜ r ≡ replayAs (now (trace .entry)) (now (tables .entry)) (replayAnswer (now (trace .entry)) (now (tables .entry)) (now (order .entry)) (length (now (out .entry))) (length (now (replies .entry)))) ⌝ }
+    ensures { λ _. ⌜ now (out .exit) ≡ tablesAfter (now (trace .entry)) (now (tables .entry)) (now (order .entry)) (now (out .entry)) (now (replies .entry)) ⌝ }
+    ensures { λ _. ⌜ now (replies .exit) ≡ answersAfter (now (trace .entry)) (now (tables .entry)) (now (order .entry)) (now (out .entry)) (now (replies .entry)) ⌝ }
+{
+    let answer = replay_call::replay(trace, tables, order, out, replies);
+    replay_as(trace, tables, answer)
+}

@@ -2,3 +2,5 @@ pub mod PairLaws
 pub mod Members
 pub mod Theorems
 pub mod Numbers
+pub mod Sizes
+pub mod Made

@@ -1,17 +1,16 @@
 -- What stands in a list of pairs: the numbers i < j < n of which the test holds, and no others. Assumes nothing.
-use Prim.Native.Nat.{ℕ, zero, suc, _<_}
-use native.Mathlib.Nat.{eq-or-lt-of-le, le-of-suc-le-suc, le-refl}
+use Prim.Native.Nat.{ℕ, _<_}
 use native.Mathlib.Omega.{arith}
-use mathlib.Core.Path.{_≡_, refl, ap, subst, _∙_}
-use mathlib.Core.Logic.{_↔_, ⊎-elim}
-use mathlib.Core.Bool.{Bool, true, false, _&&_}
-use mathlib.Core.List.{List, List·Memᴰ, List·Memᴰ·head, List·Memᴰ·not-nil, List·Memᴰ·append-cases, List·Memᴰ·eq-of-singleton, Memᴰ·append-left, Memᴰ·append-right}
+use mathlib.Core.Path.{_≡_, ap, _∙_}
+use mathlib.Core.Logic.{_↔_}
+use mathlib.Core.Bool.{Bool, true, _&&_}
+use mathlib.Core.List.{List·Memᴰ}
 use lib.Dec.{ltb}
 use borrow.Author.Tests.{lt-ltb, ltb-true}
 use Rattle.basics.proofs.Gathered.{gather-in, only-in, in-gather, in-only}
 use Rattle.basics.proofs.Booleans.{and-left, and-right, and-intro}
 use Rattle.list_pairs.specs.List.{Pair, cell, pairsWhere}
-use Rattle.basics.specs.Searches.{only, gather}
+use Rattle.basics.specs.Searches.{gather}
 
 pub pairs-in : (p : ℕ → ℕ → Bool) (n i j : ℕ) → List·Memᴰ (record { lower = i; higher = j }) (pairsWhere p n) ↔ ((i < j) × (j < n) × (p i j ≡ true))
 unfolding pairsWhere

@@ -1,13 +1,12 @@
 -- Laws of the pairs, of their counts and of their bytes. Assumes nothing.
-use Prim.Native.Nat.{ℕ, zero, suc, _+_, _*_, _<_, _≤_}
-use native.Mathlib.Nat.{suc-mul}
+use Prim.Native.Nat.{ℕ, _+_, _*_, _<_, _≤_}
 use native.Mathlib.Numerals.{add-one}
 use native.Mathlib.Omega.{arith}
 use mathlib.Core.Path.{_≡_, refl, sym, ap, _∙_}
 use mathlib.Core.Bool.{Bool, true, false, not, _&&_, cond}
 use mathlib.Core.List.{List, [], _∷_, _++_}
 use lib.Dec.{ltb}
-use lib.ListN.{length, length-append}
+use lib.ListN.{length}
 use lib.Seq.{sets}
 use borrow.Author.Tests.{lt-ltb, le-ltb}
 use Rattle.basics.proofs.Gathered.{gather-none, gather-most, gather-more, only-most, size-only}
@@ -22,9 +21,14 @@ use Rattle.list_pairs.specs.Types.{Operation, Event, Counts, Verdict}
 use Rattle.list_pairs.specs.List.{test, Pair, cell, pairsWhere, ofKind, pairBytes, countsOf}
 use Rattle.basics.specs.Searches.{only, gather, size}
 use Rattle.list_verdicts.specs.Verdicts.{verdictOf}
-use Rattle.list_pairs.specs.Counting.{counts, countOf, Small, rowOf}
+use Rattle.call_answers.specs.Inner.{Small}
+use Rattle.list_pairs.specs.Inner.{counts, countOf}
 
 -- ---- a row
+-- the pairs of a kind whose lower event is i and whose higher is below n
+abbrev pub pairsOf : Kind → List Event → ℕ → ℕ → List Pair
+pairsOf k es i n = gather (cell (test k es) i) n
+
 -- nothing stands at or left of i
 pub row-start : (p : ℕ → ℕ → Bool) (i : ℕ) → gather (cell p i) (i + 1) ≡ []
 row-start p i = gather-none (cell p i) (i + 1) (λ j l. simp (le-ltb i j (omega arith)))
@@ -75,10 +79,10 @@ small-of c h = record { pairs-small = h pairs; ordered-small = h ordered; commut
 
 -- the rows below i
 abbrev pub rowsBelow : Kind → List Event → ℕ → ℕ → List Pair
-rowsBelow k es n i = gather (λ m. rowOf k es m n) i
+rowsBelow k es n i = gather (λ m. pairsOf k es m n) i
 
 pub below-most : (k : Kind) (es : List Event) (n i : ℕ) → n ≤ 256 → length (rowsBelow k es n i) ≤ i * 256
-below-most k es n i h = gather-most (λ m. rowOf k es m n) 256 (λ m. omega (arith, row-most (test k es) m n)) i
+below-most k es n i h = gather-most (λ m. pairsOf k es m n) 256 (λ m. omega (arith, row-most (test k es) m n)) i
 
 -- ---- verdicts
 abbrev kindOf : Kind → Bool → Bool → Bool → Bool
@@ -127,29 +131,29 @@ module _ (es : List Event) (i j : ℕ) {o : Bool} {v : Verdict} (l : i < j) (e :
       ∙ ap (isKind k (eventAt es i .operation) (eventAt es j .operation)) e
 
   -- a turn of the pass over row i: a count
-  pub count-turn : (k : Kind) (x y z : ℕ) → x ≡ y + size (counts k v) → y ≡ z + length (rowOf k es i j) → x ≡ z + length (rowOf k es i (j + 1))
+  pub count-turn : (k : Kind) (x y z : ℕ) → x ≡ y + size (counts k v) → y ≡ z + length (pairsOf k es i j) → x ≡ z + length (pairsOf k es i (j + 1))
   count-turn k x y z xy yz = omega (arith, row-more (test k es) i j l, ap size (tested k))
 
   -- and the bytes, put after those of the list so far
-  pub bytes-turn : (old out now : List ℕ) (s at : ℕ) → at ≡ s + length (rowOf listed es i j) → out ≡ sets old (2 * s) (pairBytes (rowOf listed es i j))
+  pub bytes-turn : (old out now : List ℕ) (s at : ℕ) → at ≡ s + length (pairsOf listed es i j) → out ≡ sets old (2 * s) (pairBytes (pairsOf listed es i j))
       → now ≡ sets out (2 * at) (pairBytes (only (counts listed v) (record { lower = i; higher = j })))
-      → now ≡ sets old (2 * s) (pairBytes (rowOf listed es i (j + 1)))
+      → now ≡ sets old (2 * s) (pairBytes (pairsOf listed es i (j + 1)))
   bytes-turn old out now s at ha ho hn =
       hn
       ∙ ap (λ (w : List ℕ). sets w (2 * at) (pairBytes (only (counts listed v) (record { lower = i; higher = j })))) ho
-      ∙ write-more (rowOf listed es i j) (only (counts listed v) (record { lower = i; higher = j })) old (2 * s) (2 * at) (omega arith)
+      ∙ write-more (pairsOf listed es i j) (only (counts listed v) (record { lower = i; higher = j })) old (2 * s) (2 * at) (omega arith)
       ∙ ap (λ (ps : List Pair). sets old (2 * s) (pairBytes ps)) (sym (row-next (test listed es) i j (counts listed v) l (tested listed)))
 
 -- ---- all rows
-pub below-count : (k : Kind) (es : List Event) (n i : ℕ) (x y : ℕ) → x ≡ y + length (rowOf k es i n) → y ≡ length (rowsBelow k es n i) → x ≡ length (rowsBelow k es n (i + 1))
-below-count k es n i x y xy ys = omega (arith, gather-more (λ m. rowOf k es m n) i)
+pub below-count : (k : Kind) (es : List Event) (n i : ℕ) (x y : ℕ) → x ≡ y + length (pairsOf k es i n) → y ≡ length (rowsBelow k es n i) → x ≡ length (rowsBelow k es n (i + 1))
+below-count k es n i x y xy ys = omega (arith, gather-more (λ m. pairsOf k es m n) i)
 
 pub below-bytes : (es : List Event) (n i : ℕ) (old out now : List ℕ) (at : ℕ) → at ≡ length (rowsBelow listed es n i) → out ≡ sets old 0 (pairBytes (rowsBelow listed es n i))
-    → now ≡ sets out (2 * at) (pairBytes (rowOf listed es i n)) → now ≡ sets old 0 (pairBytes (rowsBelow listed es n (i + 1)))
+    → now ≡ sets out (2 * at) (pairBytes (pairsOf listed es i n)) → now ≡ sets old 0 (pairBytes (rowsBelow listed es n (i + 1)))
 below-bytes es n i old out now at ha ho hn =
     hn
-    ∙ ap (λ (w : List ℕ). sets w (2 * at) (pairBytes (rowOf listed es i n))) ho
-    ∙ write-more (rowsBelow listed es n i) (rowOf listed es i n) old 0 (2 * at) (omega arith)
+    ∙ ap (λ (w : List ℕ). sets w (2 * at) (pairBytes (pairsOf listed es i n))) ho
+    ∙ write-more (rowsBelow listed es n i) (pairsOf listed es i n) old 0 (2 * at) (omega arith)
     ∙ ap (λ (m : ℕ). sets old 0 (pairBytes (rowsBelow listed es n m))) (sym (add-one i))
 
 pub all-rows : (k : Kind) (es : List Event) (n : ℕ) → rowsBelow k es n n ≡ ofKind k es n

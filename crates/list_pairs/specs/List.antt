@@ -1,17 +1,15 @@
 -- Document 01, "The list": the pairs of events and which of them are ordered, commuting or listed; the four counts, each of its own
 -- filter; the bytes of the list.
-use mathlib.Core.Bool.{Bool, true, false, not, _&&_}
-use mathlib.Core.List.{List, [], _∷_, _++_}
-use Prim.Native.Nat.{ℕ, zero, suc, _*_}
+use mathlib.Core.Bool.{Bool, _&&_}
+use mathlib.Core.List.{List, [], _∷_}
+use Prim.Native.Nat.{ℕ}
 use lib.Dec.{ltb}
 use lib.ListN.{length}
 use Rattle.basics.specs.Searches.{only, gather}
-use Rattle.flow_table.specs.FlowTable.{effectOf}
-use Rattle.commuting.specs.Commuting.{commutes}
-use Rattle.list_verdicts.specs.Kinds.{paired, Kind, listed, pairs, isKind, ordered, commuting}
+use Rattle.list_verdicts.specs.Kinds.{Kind, listed, pairs, isKind, ordered, commuting}
 use Rattle.trace_events.specs.Events.{eventAt}
 use Rattle.happens_before.specs.Causality.{before}
-use Rattle.list_pairs.specs.Types.{Operation, Event, Counts}
+use Rattle.list_pairs.specs.Types.{Event, Counts}
 
 -- the events of lines i and j, i the lower, are of a kind; the higher never happens before the lower
 unfoldable pub test : Kind → List Event → ℕ → ℕ → Bool
@@ -43,10 +41,6 @@ abbrev pub pairBytes : List Pair → List ℕ
 pairBytes [] = []
 pairBytes (p ∷ ps) = p .lower ∷ p .higher ∷ pairBytes ps
 
--- the bytes that the list takes
-unfoldable pub needed : List Event → ℕ
-needed es = 2 * length (listOf es)
-
 -- the number of pairs of a kind
 abbrev pub count : Kind → List Event → ℕ
 count k es = length (ofKind k es (length es))
@@ -54,3 +48,11 @@ count k es = length (ofKind k es (length es))
 -- the four counts
 unfoldable pub countsOf : List Event → Counts
 countsOf es = record { pairs = count pairs es; ordered = count ordered es; commuting = count commuting es; listed = count listed es }
+
+-- what the list call hands over of a trace's events: the four counts, and the bytes of the list
+pub record Listing : Type 0 where
+  pub counts : Counts
+  pub bytes : List ℕ
+
+unfoldable pub listingOf : List Event → Listing
+listingOf es = record { counts = countsOf es; bytes = pairBytes (listOf es) }

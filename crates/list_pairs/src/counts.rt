@@ -1,55 +1,48 @@
-// The four counts of the list.
+// The four counts of the list, kept pair by pair.
+use call_answers::Counts;
 use list_verdicts::Verdict;
 ghost use mathlib.Core.Path.{_≡_};
 ghost use Prim.Native.Nat.{_+_};
 ghost use Rattle.list_verdicts.specs.Kinds.{Kind};
-ghost use Rattle.list_pairs.specs.Counting.{counts, countOf, Small};
 ghost use Rattle.basics.specs.Searches.{size};
+ghost use Rattle.call_answers.specs.Inner.{Small};
+ghost use Rattle.list_pairs.specs.Inner.{counts, countOf};
 
-pub struct Counts {
-    pub pairs: usize,
-    pub ordered: usize,
-    pub commuting: usize,
-    pub listed: usize,
+pub(crate) fn no_counts() -> Counts
+    ensures { λ r. ⌜ ((k : Kind) → countOf k r ≡ 0) ⌝ }
+{
+    Counts {
+        pairs: 0,
+        ordered: 0,
+        commuting: 0,
+        listed: 0,
+    }
 }
 
-impl Counts {
-    pub fn none() -> Counts
-        ensures { λ r. ⌜ ((k : Kind) → countOf k r ≡ 0) ⌝ }
-    {
-        Counts {
-            pairs: 0,
-            ordered: 0,
-            commuting: 0,
-            listed: 0,
-        }
-    }
-
-    // The counts with one pair more, by its verdict.
-    pub fn with(self, v: Verdict) -> Counts
-        requires { ⌜ Small self ⌝ }
-        ensures { λ r. ⌜ ((k : Kind) → countOf k r ≡ countOf k self + size (counts k v)) ⌝ }
-    {
-        match v {
-            Verdict::Unpaired => self,
-            Verdict::Ordered => Counts {
-                pairs: self.pairs + 1,
-                ordered: self.ordered + 1,
-                commuting: self.commuting,
-                listed: self.listed,
-            },
-            Verdict::Commuting => Counts {
-                pairs: self.pairs + 1,
-                ordered: self.ordered,
-                commuting: self.commuting + 1,
-                listed: self.listed,
-            },
-            Verdict::Listed => Counts {
-                pairs: self.pairs + 1,
-                ordered: self.ordered,
-                commuting: self.commuting,
-                listed: self.listed + 1,
-            },
-        }
+// The counts with one pair more, by its verdict.
+pub(crate) fn counted(c: Counts, v: Verdict) -> Counts
+    requires { ⌜ Small c ⌝ }
+    ensures { λ r. ⌜ ((k : Kind) → countOf k r ≡ countOf k c + size (counts k v)) ⌝ }
+{
+    match v {
+        Verdict::Unpaired => c,
+        Verdict::Ordered => Counts {
+            pairs: c.pairs + 1,
+            ordered: c.ordered + 1,
+            commuting: c.commuting,
+            listed: c.listed,
+        },
+        Verdict::Commuting => Counts {
+            pairs: c.pairs + 1,
+            ordered: c.ordered,
+            commuting: c.commuting + 1,
+            listed: c.listed,
+        },
+        Verdict::Listed => Counts {
+            pairs: c.pairs + 1,
+            ordered: c.ordered,
+            commuting: c.commuting,
+            listed: c.listed + 1,
+        },
     }
 }

@@ -1,6 +1,7 @@
 // The list: the pairs of table events of one switch, judged and counted, and the listed ones written down.
-pub mod counts;
-pub mod pass;
+mod counts; // the four counts, kept pair by pair
+pub mod listing; // the list of a trace's events
+mod pass; // one pass over the pairs
 
-pub use counts::Counts;
-pub use pass::scan;
+pub use listing::ListBuffer;
+pub use listing::list_of;

@@ -1,5 +1,7 @@
 // One pass over the pairs of a trace: one verdict a pair.
-use crate::counts::Counts;
+use crate::counts::counted;
+use crate::counts::no_counts;
+use call_answers::Counts;
 use list_verdicts::Verdict;
 use list_verdicts::verdict_of;
 use trace_events::Trace;
@@ -12,7 +14,7 @@ ghost use Rattle.happens_before.specs.Rows.{HappensBefore};
 ghost use Rattle.list_pairs.specs.List.{pairBytes, listOf, countsOf};
 ghost use Rattle.list_verdicts.specs.Kinds.{listed};
 ghost use Rattle.basics.specs.Searches.{only};
-ghost use Rattle.list_pairs.specs.Counting.{counts};
+ghost use Rattle.list_pairs.specs.Inner.{counts};
 
 // The pair i, j at a place of the list, if its verdict is that it is listed.
 fn put_listed(list: &mut [u8], at: usize, i: u8, j: u8, v: Verdict)
@@ -32,14 +34,14 @@ fn put_listed(list: &mut [u8], at: usize, i: u8, j: u8, v: Verdict)
 
 // All pairs: the four counts, and the listed pairs from the list's start. Both loops stand here, since an inner call would copy the
 // events at each turn.
-pub fn scan(t: Trace, rows: &[[u64; 4]; 256], list: &mut [u8]) -> Counts
+pub(crate) fn scan(t: Trace, rows: &[[u64; 4]; 256], list: &mut [u8]) -> Counts
     requires { ⌜ (t .len ≤ 256) × (131072 ≤ length (now list)) ⌝ }
     requires { ⌜ HappensBefore (eventsOf t) (now rows) ⌝ }
     ensures { λ r. ⌜ r ≡ countsOf (eventsOf t) ⌝ }
     ensures { λ r. ⌜ now (list .exit) ≡ sets (now (list .entry)) 0 (pairBytes (listOf (eventsOf t))) ⌝ }
 {
     let n = t.len;
-    let mut sum = Counts::none();
+    let mut sum = no_counts();
     for i in 0..n {
         let first = t.events[i];
         let a = first.operation;
@@ -49,7 +51,7 @@ pub fn scan(t: Trace, rows: &[[u64; 4]; 256], list: &mut [u8]) -> Counts
             let ordered = happens_before::is_before(rows, i as u8, j as u8);
             let v = verdict_of(a, b, ordered);
             put_listed(list, 2 * sum.listed, i as u8, j as u8, v);
-            let next = sum.with(v);
+            let next = counted(sum, v);
             sum = next;
         }
     }

@@ -2,4 +2,4 @@ pub mod Refused
 pub mod ReportLaws
 pub mod Sizes
 pub mod Theorems
-pub mod Answered
+pub mod Printed

@@ -4,32 +4,21 @@ use native.Mathlib.Decide.{decLt}
 use native.Mathlib.Omega.{arith}
 use mathlib.Core.Path.{_≡_, refl, ap}
 use mathlib.Core.List.{List, [], _∷_, List·Memᴰ, List·Memᴰ·head, List·Memᴰ·tail}
-use mathlib.Core.Logic.{_⊎_, inl, inr}
+use mathlib.Core.Logic.{inl, inr}
 use lib.ListN.{length, length-append}
 use Rattle.text_numbers.specs.Print.{printNumber}
 use Rattle.text_numbers.proofs.Print.{print-small, print-big, print-length}
-use Rattle.list_pairs.specs.List.{test, Pair, listOf, pairBytes, countsOf}
-use Rattle.list_verdicts.specs.Kinds.{listed, Kind}
-use Rattle.list_pairs.specs.Counting.{countOf, Small}
-use Rattle.list_pairs.proofs.PairLaws.{small-of}
+use Rattle.list_pairs.specs.List.{test, Pair, listOf, pairBytes, countsOf, listingOf}
+use Rattle.list_verdicts.specs.Kinds.{listed}
 use Rattle.list_pairs.proofs.Members.{pairs-in}
+use Rattle.refusals.specs.Checks.{Checked}
 use Rattle.trace_text.specs.TraceText.{readTrace}
 use Rattle.trace_text.proofs.Accepted.{accepted-iff}
-use Rattle.list_call.proofs.Sizes.{count-most}
-use Rattle.refusals_text.proofs.Laws.{item-length, refusal-length, refused-length}
-use Rattle.list_report.specs.Types.{Event, Counts, Refusal}
+use Rattle.list_pairs.proofs.Sizes.{count-most}
+use Rattle.refusals_text.proofs.Laws.{key-number-length, refusal-length, refused-length}
+use Rattle.list_report.specs.Types.{Event, Counts}
 use Rattle.list_report.specs.Report.{raceLine, raceLines, countsLine, listText, textOf, reportText}
 use Rattle.list_report.proofs.Refused.{refused-text}
-
-pub counts-small : (es : List Event) → length es ≤ 256 → (c : Counts) → c ≡ countsOf es → Small c
-unfolding countsOf
-counts-small es l c e = rw e (small-of (countsOf es) (λ k. small k))
-  where
-    small : (k : Kind) → countOf k (countsOf es) ≤ 65535
-    small Kind.pairs = omega (arith, count-most Kind.pairs es l)
-    small Kind.ordered = omega (arith, count-most Kind.ordered es l)
-    small Kind.commuting = omega (arith, count-most Kind.commuting es l)
-    small Kind.listed = omega (arith, count-most Kind.listed es l)
 
 one-digit : (n : ℕ) → n < 10 → length (printNumber n) ≡ 1
 one-digit n l = ap length (print-small n l)
@@ -50,7 +39,7 @@ three-digits n l =
 
 race-length : (i j : ℕ) → i < 256 → j < 256 → length (raceLine i j) ≤ 13
 unfolding raceLine
-race-length i j a b = simp (length-append, item-length) (omega (arith, three-digits i (omega arith), three-digits j (omega arith)))
+race-length i j a b = simp (length-append, key-number-length) (omega (arith, three-digits i (omega arith), three-digits j (omega arith)))
 
 races-length : (ps : List Pair) → ((i j : ℕ) → List·Memᴰ (record { lower = i; higher = j }) ps → (i < j) × (j < 256)) → length (raceLines (pairBytes ps)) ≤ 13 * length ps
 races-length [] h = omega arith
@@ -67,10 +56,10 @@ races-length (p ∷ ps) h =
 
 counts-length : (c : Counts) → length (countsLine c) ≤ 75
 unfolding countsLine
-counts-length c = simp (length-append, item-length) (omega (arith, print-length (c .pairs), print-length (c .ordered), print-length (c .commuting), print-length (c .listed)))
+counts-length c = simp (length-append, key-number-length) (omega (arith, print-length (c .pairs), print-length (c .ordered), print-length (c .commuting), print-length (c .listed)))
 
-list-length : (es : List Event) → length es ≤ 256 → length (listText es) ≤ 425000
-unfolding listText
+list-length : (es : List Event) → length es ≤ 256 → length (listText (listingOf es)) ≤ 425000
+unfolding listText listingOf
 list-length es l =
     omega (
       arith,
@@ -85,6 +74,6 @@ pub report-length : (s : List ℕ) → length (reportText s) ≤ 425000
 unfolding reportText
 report-length s = go (readTrace s) refl
   where
-    go : (x : Refusal ⊎ List Event) → readTrace s ≡ x → length (textOf s x) ≤ 425000
+    go : (x : Checked (List Event)) → readTrace s ≡ x → length (textOf s x) ≤ 425000
     go (inl r) h = omega (arith, refused-length s [] r, refusal-length r, refused-text s r h)
     go (inr es) h = list-length es (accepted-iff s es .0 h .few)

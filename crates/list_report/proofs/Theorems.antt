@@ -5,17 +5,17 @@ use mathlib.Core.Path.{_≡_, ap}
 use mathlib.Core.List.{List, [], _++_}
 use mathlib.Core.Logic.{inl, inr}
 use Rattle.trace_text.specs.TraceText.{readTrace}
-use Rattle.list_pairs.specs.List.{listOf, pairBytes, countsOf}
+use Rattle.list_pairs.specs.List.{listOf, pairBytes, countsOf, listingOf}
 use Rattle.refusals.specs.Refusals.{placeOf}
 use Rattle.refusals_text.specs.Report.{shown, refusedText}
 use Rattle.refusals_text.proofs.Laws.{shown-small}
 use Rattle.list_report.specs.Types.{Event, Refusal}
 use Rattle.list_report.specs.Report.{raceLines, countsLine, listText, textOf, reportText}
-use Rattle.list_report.proofs.Refused.{refused-place}
+use Rattle.trace_text.proofs.Refused.{refused-place}
 
 -- of an accepted trace a race line for each pair of that list, in its order, and the counts line; of any other the refusal
 pub report-lists : (s : List ℕ) (es : List Event) → readTrace s ≡ inr es → reportText s ≡ raceLines (pairBytes (listOf es)) ++ countsLine (countsOf es)
-unfolding reportText listText
+unfolding reportText listText listingOf
 report-lists s es h = ap (textOf s) h
 
 pub report-refuses : (s : List ℕ) (r : Refusal) → readTrace s ≡ inl r → reportText s ≡ refusedText s [] r

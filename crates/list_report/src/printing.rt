@@ -1,15 +1,17 @@
 // What `racelist` prints, put into a buffer.
-use list_call::ListAnswer;
-use list_call::list_races;
-use list_pairs::Counts;
-use refusals_text::put_item;
+use call_answers::Counts;
+use refusals::Outcome;
+use refusals_text::put_key_number;
 use text_numbers::put_byte;
+use trace_events::Trace;
 ghost use mathlib.Core.Path.{_≡_};
 ghost use Prim.Native.Nat.{_+_, _≤_, _<_, _^_};
 ghost use lib.ListN.{length};
 ghost use Rattle.text_numbers.specs.Print.{Put};
-ghost use Rattle.list_pairs.specs.Counting.{Small};
-ghost use Rattle.list_report.specs.Report.{raceLine, raceLines, countsLine, reportText};
+ghost use Rattle.call_answers.specs.Inner.{Small};
+ghost use Rattle.trace_events.specs.Events.{eventsOf};
+ghost use Rattle.list_pairs.specs.List.{listingOf};
+ghost use Rattle.list_report.specs.Report.{raceLine, raceLines, countsLine, listText, reportText};
 
 // `race=3,4`
 fn put_race(out: &mut [u8], at: usize, i: u8, j: u8) -> usize
@@ -17,8 +19,8 @@ fn put_race(out: &mut [u8], at: usize, i: u8, j: u8) -> usize
     ensures { λ r. ⌜ Put (raceLine i j) at (now (out .entry)) r (now (out .exit)) ⌝ }
     ensures { λ r. ⌜ r ≤ at + 54 ⌝ }
 {
-    let a = put_item(out, at, b"race=", i as u32);
-    let b = put_item(out, a, b",", j as u32);
+    let a = put_key_number(out, at, b"race=", i as u32);
+    let b = put_key_number(out, a, b",", j as u32);
     put_byte(out, b, b'\n');
     b + 1
 }
@@ -43,19 +45,12 @@ fn put_counts(out: &mut [u8], at: usize, c: Counts) -> usize
     requires { ⌜ (at < 2 ^ 30) × Small c ⌝ }
     ensures { λ r. ⌜ Put (countsLine c) at (now (out .entry)) r (now (out .exit)) ⌝ }
 {
-    let p = put_item(out, at, b"pairs=", c.pairs as u32);
-    let o = put_item(out, p, b" ordered=", c.ordered as u32);
-    let m = put_item(out, o, b" commuting=", c.commuting as u32);
-    let l = put_item(out, m, b" listed=", c.listed as u32);
+    let p = put_key_number(out, at, b"pairs=", c.pairs as u32);
+    let o = put_key_number(out, p, b" ordered=", c.ordered as u32);
+    let m = put_key_number(out, o, b" commuting=", c.commuting as u32);
+    let l = put_key_number(out, m, b" listed=", c.listed as u32);
     put_byte(out, l, b'\n');
     l + 1
-}
-
-// Room for any list.
-fn list_room() -> [u8; 65536]
-    ensures { λ r. ⌜ length r ≡ 65536 ⌝ }
-{
-    [0u8; 65536]
 }
 
 // Room for all that is printed of a trace.
@@ -65,19 +60,31 @@ pub fn room() -> [u8; 425000]
     [0u8; 425000]
 }
 
-// What `racelist` prints of a trace. No list takes more than 65,280 bytes, so that the list call never finds its buffer short.
+// Of the events of an accepted trace: a line for each listed pair, then the counts line.
+fn put_listing(out: &mut [u8], t: Trace) -> usize
+    requires { ⌜ t .len ≤ 256 ⌝ }
+    ensures { λ r. ⌜ Put (listText (listingOf (eventsOf t))) 0 (now (out .entry)) r (now (out .exit)) ⌝ }
+{
+    let list = list_pairs::list_of(t);
+    let counts = list.counts;
+    let n = list.length;
+    let pairs = list.bytes;
+    let at = put_races(out, &pairs[..n]);
+    put_counts(out, at, counts)
+}
+
+// What `racelist` prints of a trace.
 pub fn report(trace: &[u8], out: &mut [u8]) -> usize
     ensures { λ r. ⌜ Put (reportText (now (trace .entry))) 0 (now (out .entry)) r (now (out .exit)) ⌝ }
     ensures { λ r. ⌜ r ≤ 425000 ⌝ }
 {
-    let mut list = list_room();
-    let answer = list_races(trace, &mut list);
-    match answer {
-        ListAnswer::Counts(c) => {
-            let n = 2 * c.listed;
-            let at = put_races(out, &list[..n]);
-            put_counts(out, at, c)
+    let read = trace_text::read_trace(trace);
+    let outcome = read.outcome;
+    match outcome {
+        Outcome::Refused(r) => refusals_text::refused(out, trace, &trace[..0], r),
+        Outcome::Accepted => {
+            let events = read.trace;
+            put_listing(out, events)
         }
-        ListAnswer::Refused(r) => refusals_text::refused(out, trace, &trace[..0], r),
     }
 }

@@ -7,6 +7,7 @@ use Prim.Native.Nat.{ℕ}
 use lib.Dec.{ltb}
 use lib.ListN.{length}
 use Rattle.basics.specs.Text.{startingWith}
+use Rattle.text_lines.specs.declared.limits.Limit.{Limit}
 use Rattle.refusals.specs.Types.{Refusal, Outcome}
 
 -- what a check hands on: a refusal, or a value
@@ -28,6 +29,13 @@ refuseIf false r = inr tt
 abbrev pub refuseAt : Option ℕ → (ℕ → Refusal) → Checked (Unit {0})
 refuseAt (some place) r = inl (r place)
 refuseAt none r = inr tt
+
+-- 1, 2, 3 or 11, 12, 13: the first limit that a text exceeds
+abbrev pub refuseLimit : Limit → Refusal → Refusal → Refusal → Checked (Unit {0})
+refuseLimit Limit.TooLong long unended many = inl long
+refuseLimit Limit.Unended long unended many = inl unended
+refuseLimit Limit.TooManyLines long unended many = inl many
+refuseLimit Limit.Kept long unended many = inr tt
 
 -- refused where a text is longer than the room that is lent: the bytes needed
 abbrev pub refuseShort : ℕ → List ℕ → (ℕ → Refusal) → Checked (Unit {0})

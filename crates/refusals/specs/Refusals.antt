@@ -6,43 +6,43 @@ use Rattle.text_lines.specs.Lines.{lines}
 use Rattle.refusals.specs.Types.{Refusal, Source, Returned}
 
 -- a row of the table: number, place, and the text of which the place is a line
-abbrev pub rowOf : ℕ → ℕ → Source → Returned
-rowOf number place source = record { number = number; place = place; source = source }
+abbrev pub refusalRow : ℕ → ℕ → Source → Returned
+refusalRow number place source = record { number = number; place = place; source = source }
 
 -- the place is 0, a line, a position in the order, or the bytes needed
 abbrev pub returned : Refusal → Returned
 -- trace over 65,535 bytes / last byte not LF / over 256 lines
-returned Refusal.TraceTooLong = rowOf 1 0 Source.Neither
-returned Refusal.TraceUnended = rowOf 2 0 Source.Neither
-returned Refusal.TraceTooManyLines = rowOf 3 0 Source.Neither
+returned Refusal.TraceTooLong = refusalRow 1 0 Source.Neither
+returned Refusal.TraceUnended = refusalRow 2 0 Source.Neither
+returned Refusal.TraceTooManyLines = refusalRow 3 0 Source.Neither
 -- line malformed, value outside range
-returned (Refusal.TraceMalformed line) = rowOf 4 line Source.Trace
+returned (Refusal.TraceMalformed line) = refusalRow 4 line Source.Trace
 -- `ev` isn't the line number
-returned (Refusal.EventMisnumbered line) = rowOf 5 line Source.Trace
+returned (Refusal.EventMisnumbered line) = refusalRow 5 line Source.Trace
 -- address bit past the prefix
-returned (Refusal.TraceAddressBit line) = rowOf 6 line Source.Trace
+returned (Refusal.TraceAddressBit line) = refusalRow 6 line Source.Trace
 -- token in `out` of two lines
-returned (Refusal.TokenTwice later) = rowOf 7 later Source.Trace
+returned (Refusal.TokenTwice later) = refusalRow 7 later Source.Trace
 -- `in` token whose `out` stands on this or a later line
-returned (Refusal.TokenTooEarly line) = rowOf 8 line Source.Trace
+returned (Refusal.TokenTooEarly line) = refusalRow 8 line Source.Trace
 -- tables: as 1, 2, 3, 4, 6
-returned Refusal.TablesTooLong = rowOf 11 0 Source.Neither
-returned Refusal.TablesUnended = rowOf 12 0 Source.Neither
-returned Refusal.TablesTooManyLines = rowOf 13 0 Source.Neither
-returned (Refusal.TablesMalformed line) = rowOf 14 line Source.Tables
-returned (Refusal.TablesAddressBit line) = rowOf 15 line Source.Tables
+returned Refusal.TablesTooLong = refusalRow 11 0 Source.Neither
+returned Refusal.TablesUnended = refusalRow 12 0 Source.Neither
+returned Refusal.TablesTooManyLines = refusalRow 13 0 Source.Neither
+returned (Refusal.TablesMalformed line) = refusalRow 14 line Source.Tables
+returned (Refusal.TablesAddressBit line) = refusalRow 15 line Source.Tables
 -- tables: switch and key twice
-returned (Refusal.KeyTwice later) = rowOf 16 later Source.Tables
+returned (Refusal.KeyTwice later) = refusalRow 16 later Source.Tables
 -- order's length wrong, or an event missing
-returned Refusal.OrderIncomplete = rowOf 21 0 Source.Neither
+returned Refusal.OrderIncomplete = refusalRow 21 0 Source.Neither
 -- event put before one that happens before it
-returned (Refusal.EventTooEarly position) = rowOf 22 position Source.Neither
+returned (Refusal.EventTooEarly position) = refusalRow 22 position Source.Neither
 -- list, tables, answers buffer too short
-returned (Refusal.ListShort needed) = rowOf 31 needed Source.Neither
-returned (Refusal.TablesShort needed) = rowOf 32 needed Source.Neither
-returned (Refusal.AnswersShort needed) = rowOf 33 needed Source.Neither
+returned (Refusal.ListShort needed) = refusalRow 31 needed Source.Neither
+returned (Refusal.TablesShort needed) = refusalRow 32 needed Source.Neither
+returned (Refusal.AnswersShort needed) = refusalRow 33 needed Source.Neither
 -- over 512 entries held
-returned Refusal.TooManyEntries = rowOf 41 0 Source.Neither
+returned Refusal.TooManyEntries = refusalRow 41 0 Source.Neither
 
 abbrev pub numberOf : Refusal → ℕ
 numberOf r = returned r .number

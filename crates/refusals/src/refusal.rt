@@ -1,6 +1,6 @@
 // Document 01's table of refusals: each with its place, a line, a position or the bytes needed.
 ghost use mathlib.Core.Path.{_≡_};
-ghost use Rattle.refusals.specs.Refusals.{rowOf, returned};
+ghost use Rattle.refusals.specs.Refusals.{refusalRow, returned};
 
 pub enum Refusal {
     TraceTooLong,
@@ -46,7 +46,7 @@ pub struct Returned {
 }
 
 fn row(number: u8, place: usize, source: Source) -> Returned
-    ensures { λ r. ⌜ r ≡ rowOf number place source ⌝ }
+    ensures { λ r. ⌜ r ≡ refusalRow number place source ⌝ }
 {
     Returned {
         number,

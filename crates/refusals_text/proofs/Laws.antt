@@ -2,7 +2,7 @@
 use Prim.Native.Nat.{ℕ, _+_, _<_, _≤_}
 use native.Mathlib.Omega.{arith}
 use mathlib.Core.Path.{_≡_}
-use mathlib.Core.List.{List, [], _∷_, _++_}
+use mathlib.Core.List.{List, _++_}
 use borrow.Author.Tests.{lt-ltb, le-ltb}
 use lib.ListN.{length, length-append}
 use Rattle.basics.specs.Text.{bytes}
@@ -10,7 +10,7 @@ use Rattle.text_numbers.specs.Print.{Put, printNumber}
 use Rattle.text_numbers.proofs.Writing.{print-length}
 use Rattle.refusals.specs.Refusals.{returned, numberOf, placeOf, sourceOf, lineOf}
 use Rattle.refusals_text.specs.Types.{Refusal, Source, Returned}
-use Rattle.refusals_text.specs.Report.{item, shown, refusalLine, lineText, refusedText}
+use Rattle.refusals_text.specs.Report.{keyNumber, shown, refusalLine, lineText, refusedText}
 
 pub shown-small : (p : ℕ) → p < 4294967296 → p ≡ shown p
 unfolding shown
@@ -22,7 +22,7 @@ shown-large p h = rw (le-ltb p 4294967296 h)
 
 -- a refusal's line, by the numbers that the code has
 pub refusal-put : (r : Refusal) (t : Returned) (p : ℕ) {m : ℕ} {old out : List ℕ} → t ≡ returned r → p ≡ shown (t .place)
-    → Put (item (bytes "refused=") (t .number) ++ item (bytes " place=") p ++ bytes "\n") 0 old m out
+    → Put (keyNumber (bytes "refused=") (t .number) ++ keyNumber (bytes " place=") p ++ bytes "\n") 0 old m out
     → Put (refusalLine r) 0 old m out
 unfolding refusalLine
 refusal-put r t p e f h = rw (f, e) at h
@@ -33,13 +33,13 @@ pub refused-arm : (trace tables : List ℕ) (r : Refusal) (t : Returned) (line :
 unfolding refusedText
 refused-arm trace tables r t line e f g h = rw (← f, g, e) at h
 
-pub item-length : (key : List ℕ) (n : ℕ) → length (item key n) ≡ length key + length (printNumber n)
-unfolding item
-item-length key n = length-append key (printNumber n)
+pub key-number-length : (key : List ℕ) (n : ℕ) → length (keyNumber key n) ≡ length key + length (printNumber n)
+unfolding keyNumber
+key-number-length key n = length-append key (printNumber n)
 
 pub refusal-length : (r : Refusal) → length (refusalLine r) ≤ 36
 unfolding refusalLine
-refusal-length r = simp (length-append, item-length) (omega (arith, print-length (numberOf r), print-length (shown (placeOf r))))
+refusal-length r = simp (length-append, key-number-length) (omega (arith, print-length (numberOf r), print-length (shown (placeOf r))))
 
 -- how long the text of a refusal is
 pub refused-length : (trace tables : List ℕ) (r : Refusal) → length (refusedText trace tables r) ≡ length (refusalLine r) + length (lineText (sourceOf r) (lineOf trace tables r))

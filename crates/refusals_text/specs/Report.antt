@@ -1,6 +1,6 @@
 -- Document 01, "Program and worked lines": what the programs print of a refusal.
 use mathlib.Core.Bool.{cond}
-use mathlib.Core.List.{List, [], _∷_, _++_}
+use mathlib.Core.List.{List, [], _++_}
 use Prim.Native.Nat.{ℕ}
 use lib.Dec.{ltb}
 use Rattle.basics.specs.Text.{bytes}
@@ -9,8 +9,8 @@ use Rattle.refusals.specs.Refusals.{numberOf, placeOf, sourceOf, lineOf}
 use Rattle.refusals_text.specs.Types.{Refusal, Source}
 
 -- a key and its number
-unfoldable pub item : List ℕ → ℕ → List ℕ
-item key n = key ++ printNumber n
+unfoldable pub keyNumber : List ℕ → ℕ → List ℕ
+keyNumber key n = key ++ printNumber n
 
 -- a place as it is printed: as it is, since no text, order or buffer need is near the largest number that is printed
 unfoldable pub shown : ℕ → ℕ
@@ -19,8 +19,8 @@ shown p = cond (ltb p 4294967296) p 4294967295
 -- `refused=4 place=2`
 unfoldable pub refusalLine : Refusal → List ℕ
 refusalLine r =
-    item (bytes "refused=") (numberOf r)
-    ++ item (bytes " place=") (shown (placeOf r))
+    keyNumber (bytes "refused=") (numberOf r)
+    ++ keyNumber (bytes " place=") (shown (placeOf r))
     ++ bytes "\n"
 
 -- the refused line, where there is one

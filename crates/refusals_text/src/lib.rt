@@ -10,12 +10,12 @@ ghost use mathlib.Core.Path.{_≡_};
 ghost use Prim.Native.Nat.{_+_, _≤_, _<_, _^_};
 ghost use lib.ListN.{length};
 ghost use Rattle.text_numbers.specs.Print.{Put};
-ghost use Rattle.refusals_text.specs.Report.{item, shown, refusalLine, refusedText};
+ghost use Rattle.refusals_text.specs.Report.{keyNumber, shown, refusalLine, refusedText};
 
 // A key and its number.
-pub fn put_item(out: &mut [u8], at: usize, key: &[u8], v: u32) -> usize
+pub fn put_key_number(out: &mut [u8], at: usize, key: &[u8], v: u32) -> usize
     requires { ⌜ (at < 2 ^ 31) × (length (now key) ≤ 16) ⌝ }
-    ensures { λ r. ⌜ Put (item (now (key .entry)) v) at (now (out .entry)) r (now (out .exit)) ⌝ }
+    ensures { λ r. ⌜ Put (keyNumber (now (key .entry)) v) at (now (out .entry)) r (now (out .exit)) ⌝ }
     ensures { λ r. ⌜ r ≤ at + 26 ⌝ }
 {
     let n = put_bytes(out, at, key);
@@ -40,8 +40,8 @@ fn put_refusal(out: &mut [u8], refusal: Refusal) -> usize
 {
     let returned = refusal.returned();
     let p = shown(returned.place);
-    let n = put_item(out, 0, b"refused=", returned.number as u32);
-    let m = put_item(out, n, b" place=", p);
+    let n = put_key_number(out, 0, b"refused=", returned.number as u32);
+    let m = put_key_number(out, n, b" place=", p);
     put_byte(out, m, b'\n');
     m + 1
 }

@@ -1,12 +1,12 @@
 // The replay of a trace: the checks in their order, then the run.
 use order_check::ScheduleAnswer;
+use refusals::Outcome;
 use refusals::Refusal;
 use replay_texts::ReplayAnswer;
 use replay_texts::write_both;
 use rows::Rows;
 use tables_text::Outcome as TablesOutcome;
 use trace_events::Trace;
-use trace_text::Outcome;
 ghost use mathlib.Core.Path.{_≡_};
 ghost use Prim.Native.Nat.{_≤_};
 ghost use lib.ListN.{length};

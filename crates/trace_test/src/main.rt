@@ -1,7 +1,7 @@
 // Reads the trace texts of its data files: the number of events, or the refusal with the refused line. What must come out is in the
 // file `stdout`.
 use libc::STDOUT_FILENO;
-use trace_text::Outcome;
+use refusals::Outcome;
 
 // The files 000 and on: accepted texts; then refusals 1, 2 and 3; then malformed lines, item by item; then 5, 6, 7, 8 and texts with
 // several faults.

@@ -1,7 +1,7 @@
 -- Which texts are accepted, and as which events: exactly those that `IsTrace` describes. So one text is one trace, and what its
 -- events carry is in range. Assumes nothing.
 use mathlib.Core.Path.{_≡_, refl, _∙_, ap}
-use mathlib.Core.Logic.{_↔_, _⊎_, inl, inr}
+use mathlib.Core.Logic.{_↔_, inr}
 use mathlib.Core.Bool.{true}
 use mathlib.Core.List.{List, [], _∷_}
 use mathlib.Core.Option.{Option, none, some}
@@ -12,7 +12,7 @@ use lib.ListN.{length}
 use borrow.Author.Tests.{eqb-true, eq-eqb}
 use Rattle.basics.proofs.Booleans.{split}
 use Rattle.text_lines.specs.Lines.{lines}
-use Rattle.text_lines.specs.Limits.{limitOf, Within}
+use Rattle.text_lines.specs.Limits.{limitOf}
 use Rattle.text_lines.proofs.LimitLaws.{within-limit, limit-within}
 use Rattle.text_reader.specs.Each.{readEach}
 use Rattle.text_reader.proofs.Each.{refuses, Each, each-only}
@@ -20,14 +20,15 @@ use Rattle.trace_line.specs.EventLine.{printLine, clearEvent, readNumberedEvent
 use Rattle.trace_line.specs.Written.{EventWritten, EventInRange}
 use Rattle.trace_line.proofs.LineFormat.{line-format}
 use Rattle.trace_line.proofs.EventRanges.{event-range}
-use Rattle.trace_text.specs.Types.{Refusal, Limit, Event}
+use Rattle.refusals.specs.Checks.{_▹_, refuseLimit, refuseAt}
+use Rattle.refusals.proofs.Checks.{same-value, handed-on, nothing-found, limit-kept}
 use Rattle.basics.specs.Searches.{lowest}
-use Rattle.trace_text.specs.TraceText.{twice, tooEarly, refusedAt, checkTokens, readLines, onEvents, withinLimits, readTrace}
-use Rattle.trace_text.specs.Meaning.{TwiceAt, EarlyAt, LowestLine, printFrom, AllWritten, IsTrace}
-use Rattle.trace_text.proofs.TokenMeaning.{twice-iff, early-iff, lowest-found, lowest-none}
-
-same-value : {A B : Type 0} {a b : B} → _≡_ {A = A ⊎ B} (inr a) (inr b) → a ≡ b
-same-value e = cc
+use Rattle.basics.proofs.Searches.{lowest-none, lowest-absent}
+use Rattle.trace_text.specs.Types.{Refusal, Event}
+use Rattle.trace_text.specs.TraceText.{twice, takenEarly, readTrace}
+use Rattle.trace_text.specs.Inner.{checkTokens}
+use Rattle.trace_text.specs.Meaning.{TwiceAt, TakenEarlyAt, printFrom, AllWritten, IsTrace}
+use Rattle.trace_text.proofs.TokenMeaning.{twice-iff, taken-early-iff}
 
 -- ---- a line
 event-only : (k : ℕ) (l : List ℕ) (e : Event) → readEvent k l ≡ inr e → (k ≤ 255) × EventWritten e × (clearEvent e ≡ true) × (l ≡ printLine k e)
@@ -65,7 +66,7 @@ lines-only k (l ∷ ls) (e ∷ es) h b =
     let n = g .2 in
     (ap {B = List (List ℕ)} (λ y. y ∷ ls) (f .3) ∙ ap (λ y. printLine k e ∷ y) (g .0), ((f .1, f .2), g .1), omega arith)
 
-lines-read : (es : List Event) (k : ℕ) → AllWritten es → k + length es ≤ 256 → readLines k (printFrom k es) ≡ inr es
+lines-read : (es : List Event) (k : ℕ) → AllWritten es → k + length es ≤ 256 → readEach readEvent k (printFrom k es) ≡ inr es
 unfolding readEach
 lines-read [] k w b = refl
 lines-read (e ∷ es) k w b = rw (event-reads k e (omega arith) (w .0 .0) (w .0 .1), lines-read es (k + 1) (w .1) (omega arith)) refl
@@ -75,58 +76,38 @@ lines-length k [] = refl
 lines-length k (e ∷ es) = ap suc (lines-length (k + 1) es)
 
 -- ---- the tokens
-tokens-only : (es fs : List Event) → checkTokens es ≡ inr fs
-    → (es ≡ fs) × ((j : ℕ) → j < length es → TwiceAt es j → ⊥) × ((i : ℕ) → i < length es → EarlyAt es i → ⊥)
-unfolding checkTokens
-tokens-only es fs h = go (lowest (twice es) (length es)) refl (lowest (tooEarly es) (length es)) refl h
-  where
-    go : (x : Option ℕ) → lowest (twice es) (length es) ≡ x → (y : Option ℕ) → lowest (tooEarly es) (length es) ≡ y
-        → refusedAt Refusal.TokenTwice x (refusedAt Refusal.TokenTooEarly y (inr es)) ≡ inr fs
-        → (es ≡ fs) × ((j : ℕ) → j < length es → TwiceAt es j → ⊥) × ((i : ℕ) → i < length es → EarlyAt es i → ⊥)
-    go (some j) p y q u = refuses u
-    go none p (some i) q u = refuses u
-    go none p none q u = (same-value u, lowest-none (TwiceAt es) (twice es) (twice-iff es) (length es) p, lowest-none (EarlyAt es) (tooEarly es) (early-iff es) (length es) q)
+-- no token stands twice, and none is taken in too early
+abbrev TokensFine : List Event → Type 0
+TokensFine es = ((j : ℕ) → j < length es → TwiceAt es j → ⊥) × ((i : ℕ) → i < length es → TakenEarlyAt es i → ⊥)
 
-tokens-pass : (es : List Event) → ((j : ℕ) → j < length es → TwiceAt es j → ⊥) → ((i : ℕ) → i < length es → EarlyAt es i → ⊥) → checkTokens es ≡ inr es
+tokens-only : (es fs : List Event) → checkTokens es ≡ inr fs → (es ≡ fs) × TokensFine es
 unfolding checkTokens
-tokens-pass es a b = go (lowest (twice es) (length es)) refl (lowest (tooEarly es) (length es)) refl
-  where
-    go : (x : Option ℕ) → lowest (twice es) (length es) ≡ x → (y : Option ℕ) → lowest (tooEarly es) (length es) ≡ y
-        → refusedAt Refusal.TokenTwice x (refusedAt Refusal.TokenTooEarly y (inr es)) ≡ inr es
-    go (some j) p y q = let w = lowest-found (TwiceAt es) (twice es) (twice-iff es) (length es) j p in absurd (a j (w .inside) (w .here))
-    go none p (some i) q = let w = lowest-found (EarlyAt es) (tooEarly es) (early-iff es) (length es) i q in absurd (b i (w .inside) (w .here))
-    go none p none q = refl
+tokens-only es fs h =
+    let (_, p, u) = handed-on (refuseAt (lowest (twice es) (length es)) Refusal.TokenTwice) (λ _. refuseAt (lowest (takenEarly es) (length es)) Refusal.TokenTooEarly ▹ λ _. inr es) h in
+    let (_, q, v) = handed-on (refuseAt (lowest (takenEarly es) (length es)) Refusal.TokenTooEarly) (λ _. inr es) u in (
+      same-value v,
+      (
+        lowest-none (TwiceAt es) (twice es) (twice-iff es) (length es) (nothing-found _ _ p),
+        lowest-none (TakenEarlyAt es) (takenEarly es) (taken-early-iff es) (length es) (nothing-found _ _ q),
+      ),
+    )
 
--- 7 and 8 give the lowest line of which they speak; 8 only where no token stands twice
-pub token-twice-line : (es : List Event) (j : ℕ) → checkTokens es ≡ inl (Refusal.TokenTwice j) → LowestLine (TwiceAt es) (length es) j
+tokens-pass : (es : List Event) → TokensFine es → checkTokens es ≡ inr es
 unfolding checkTokens
-token-twice-line es j h = go (lowest (twice es) (length es)) refl (lowest (tooEarly es) (length es)) h
-  where
-    go : (x : Option ℕ) → lowest (twice es) (length es) ≡ x → (y : Option ℕ) → refusedAt Refusal.TokenTwice x (refusedAt Refusal.TokenTooEarly y (inr es)) ≡ inl (Refusal.TokenTwice j)
-        → LowestLine (TwiceAt es) (length es) j
-    go (some i) p y u = let q : i ≡ j = cc in lowest-found (TwiceAt es) (twice es) (twice-iff es) (length es) j (p ∙ ap some q)
-    go none p (some i) u = let z : _≡_ {A = ℕ} 0 1 = cc in absurd (omega arith)
-    go none p none u = let z : _≡_ {A = ℕ} 0 1 = cc in absurd (omega arith)
-
-pub token-early-line : (es : List Event) (i : ℕ) → checkTokens es ≡ inl (Refusal.TokenTooEarly i)
-    → LowestLine (EarlyAt es) (length es) i × ((j : ℕ) → j < length es → TwiceAt es j → ⊥)
-unfolding checkTokens
-token-early-line es i h = go (lowest (twice es) (length es)) refl (lowest (tooEarly es) (length es)) refl h
-  where
-    go : (x : Option ℕ) → lowest (twice es) (length es) ≡ x → (y : Option ℕ) → lowest (tooEarly es) (length es) ≡ y
-        → refusedAt Refusal.TokenTwice x (refusedAt Refusal.TokenTooEarly y (inr es)) ≡ inl (Refusal.TokenTooEarly i)
-        → LowestLine (EarlyAt es) (length es) i × ((j : ℕ) → j < length es → TwiceAt es j → ⊥)
-    go (some j) p y q u = let z : _≡_ {A = ℕ} 0 1 = cc in absurd (omega arith)
-    go none p (some k) q u =
-        let e : k ≡ i = cc in
-        (lowest-found (EarlyAt es) (tooEarly es) (early-iff es) (length es) i (q ∙ ap some e), lowest-none (TwiceAt es) (twice es) (twice-iff es) (length es) p)
-    go none p none q u = let z : _≡_ {A = ℕ} 0 1 = cc in absurd (omega arith)
+tokens-pass es (a, b) =
+    rw (
+      lowest-absent (TwiceAt es) (twice es) (twice-iff es) (length es) a,
+      lowest-absent (TakenEarlyAt es) (takenEarly es) (taken-early-iff es) (length es) b,
+    )
 
 -- ---- the text
-lines-accepted : (s : List ℕ) (es : List Event) → Within s → (x : Refusal ⊎ List Event) → readLines 0 (lines s) ≡ x → onEvents x ≡ inr es → IsTrace s es
-lines-accepted s es w (inl r) q u = refuses u
-lines-accepted s es w (inr fs) q u =
-    let t = tokens-only fs es u in
+trace-only : (s : List ℕ) (es : List Event) → readTrace s ≡ inr es → IsTrace s es
+unfolding readTrace checkTokens
+trace-only s es h =
+    let (_, p, u) = handed-on (refuseLimit (limitOf s) Refusal.TraceTooLong Refusal.TraceUnended Refusal.TraceTooManyLines) (λ _. readEach readEvent 0 (lines s) ▹ checkTokens) h in
+    let (fs, q, v) = handed-on (readEach readEvent 0 (lines s)) checkTokens u in
+    let w = limit-within s (limit-kept (limitOf s) _ _ _ p) in
+    let t = tokens-only fs es v in
     let l = lines-only 0 (lines s) fs (each-only readEvent LineOf event-only 0 (lines s) fs q) (omega arith) in
     let n = l .2 in
     rw (← t .0) (record {
@@ -135,26 +116,16 @@ lines-accepted s es w (inr fs) q u =
       few = omega arith;
       printed = l .0;
       written = l .1;
-      once = t .1;
-      inTime = t .2;
+      once = t .1 .0;
+      inTime = t .1 .1;
     })
 
-trace-only : (s : List ℕ) (es : List Event) → readTrace s ≡ inr es → IsTrace s es
-unfolding readTrace
-trace-only s es h = go (limitOf s) refl h
-  where
-    go : (x : Limit) → limitOf s ≡ x → withinLimits x (onEvents (readLines 0 (lines s))) ≡ inr es → IsTrace s es
-    go Limit.TooLong p u = refuses u
-    go Limit.Unended p u = refuses u
-    go Limit.TooManyLines p u = refuses u
-    go Limit.Kept p u = lines-accepted s es (limit-within s p) (readLines 0 (lines s)) refl u
-
 trace-reads : (s : List ℕ) (es : List Event) → IsTrace s es → readTrace s ≡ inr es
-unfolding readTrace
+unfolding readTrace checkTokens
 trace-reads s es t =
     let n : length (lines s) ≤ 256 = (let e = ap length (t .printed) ∙ lines-length 0 es in let f = t .few in omega arith) in
-    let r : readLines 0 (lines s) ≡ inr es = ap (readLines 0) (t .printed) ∙ lines-read es 0 (t .written) (let f = t .few in omega arith) in
-    rw (within-limit s (record { bytes = t .bytes; ended = t .ended; few = n }), r) (tokens-pass es (t .once) (t .inTime))
+    let r : readEach readEvent 0 (lines s) ≡ inr es = ap (readEach readEvent 0) (t .printed) ∙ lines-read es 0 (t .written) (let f = t .few in omega arith) in
+    rw (within-limit s (record { bytes = t .bytes; ended = t .ended; few = n }), r) (tokens-pass es (t .once, t .inTime))
 
 -- a text is accepted as these events exactly if it is their text
 pub accepted-iff : (s : List ℕ) (es : List Event) → (readTrace s ≡ inr es) ↔ IsTrace s es

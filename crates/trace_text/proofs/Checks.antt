@@ -1,23 +1,19 @@
--- The checks of a text, one after the other.
+-- The checks of a text, by the limit that it exceeds.
 use mathlib.Core.List.{List}
-use mathlib.Core.Logic.{_⊎_}
 use mathlib.Core.Path.{_≡_}
 use Prim.Native.Nat.{ℕ}
 use Rattle.text_lines.specs.Lines.{lines}
 use Rattle.text_lines.specs.Limits.{limitOf}
-use Rattle.trace_text.specs.Types.{Refusal, Limit, Event, Outcome}
-use Rattle.trace_text.specs.TraceText.{checkTokens, readLines, onEvents, withinLimits, readTrace, asOutcome}
+use Rattle.text_reader.specs.Each.{readEach}
+use Rattle.refusals.specs.Checks.{Checked, _▹_, refuseLimit}
+use Rattle.trace_line.specs.EventLine.{readEvent}
+use Rattle.trace_text.specs.Types.{Refusal, Limit, Event}
+use Rattle.trace_text.specs.TraceText.{readTrace}
+use Rattle.trace_text.specs.Inner.{checkTokens}
 
 -- 1, 2, 3, and then the lines
-pub limited : (s : List ℕ) {limit form : Limit} {x : Refusal ⊎ List Event} → limit ≡ limitOf s → limit ≡ form
-    → x ≡ withinLimits form (onEvents (readLines 0 (lines s))) → x ≡ readTrace s
-unfolding readTrace
+pub limited : (s : List ℕ) {limit form : Limit} {x : Checked (List Event)} → limit ≡ limitOf s → limit ≡ form
+    → x ≡ (refuseLimit form Refusal.TraceTooLong Refusal.TraceUnended Refusal.TraceTooManyLines ▹ λ _. readEach readEvent 0 (lines s) ▹ checkTokens)
+    → x ≡ readTrace s
+unfolding readTrace checkTokens
 limited s e f h = rw (← e, f) h
-
--- the lines' answer, by its case
-module _ (o : Outcome) (es : List Event) (x : Refusal ⊎ List Event) (e : asOutcome o es ≡ x) where
-  pub line-refused : {r : Refusal} → o ≡ Outcome.Refused r → asOutcome o es ≡ onEvents x
-  line-refused p = rw (← e, p)
-
-  pub lines-accepted : o ≡ Outcome.Accepted → checkTokens es ≡ onEvents x
-  lines-accepted p = rw (← e, p)

@@ -15,8 +15,10 @@ use Rattle.trace_events.specs.Events.{tokensOf, eventsOf, eventAt, noEvent, noT
 use Rattle.basics.specs.Searches.{shares, orElse, lowest}
 use Rattle.basics.proofs.Searches.{any-same, any-none}
 use Rattle.trace_events.proofs.TraceLaws.{event-at, length-events}
+use Rattle.refusals.specs.Checks.{_▹_, refuseAt, outcomeOf}
 use Rattle.trace_text.specs.Types.{Refusal, Event, Tokens, Trace, Outcome}
-use Rattle.trace_text.specs.TraceText.{outsAt, putsOut, twice, tooEarly, refusedAt, checkTokens, firstOf, asOutcome}
+use Rattle.trace_text.specs.TraceText.{outsAt, putsOut, twice, takenEarly}
+use Rattle.trace_text.specs.Inner.{checkTokens, firstOf}
 
 -- ---- some line puts out one of the tokens
 and-false : (b : Bool) → (b && false) ≡ false
@@ -57,8 +59,8 @@ module _ (t : Trace) (all : List Tokens) (same : (k : ℕ) → k < t .len → ge
     twice-test e = rw (event-at t j within) (e ∙ puts-same _ _ 0 (outsAt (eventsOf t)) j (outs-same j (omega arith)))
 
     pub early-test : t .len ≤ length (t .events) → r ≡ putsOut (λ k. tokensOf (getD all k noTokens)) (tokensOf (getD (t .events) j noEvent .head .ins)) j (t .len)
-        → r ≡ tooEarly (eventsOf t) j
-    unfolding tooEarly
+        → r ≡ takenEarly (eventsOf t) j
+    unfolding takenEarly
     early-test fits e = rw (event-at t j within, length-events t fits) (e ∙ puts-same _ _ j (outsAt (eventsOf t)) (t .len) (outs-same (t .len) (omega arith)))
 
 -- what each line puts out, up to one line more
@@ -90,12 +92,13 @@ unfolding lowest
 placed-more refusal p k e u v w = w ∙ rw (v, u, e, add-one k) (first-placed refusal (lowest p k) (p k) k)
 
 -- 7, then 8
-first-checked : (es : List Event) (x y : Option ℕ) → asOutcome (firstOf (placed Refusal.TokenTwice x) (placed Refusal.TokenTooEarly y)) es ≡ refusedAt Refusal.TokenTwice x (refusedAt Refusal.TokenTooEarly y (inr es))
+first-checked : (es : List Event) (x y : Option ℕ)
+    → outcomeOf (firstOf (placed Refusal.TokenTwice x) (placed Refusal.TokenTooEarly y)) es ≡ (refuseAt x Refusal.TokenTwice ▹ λ _. refuseAt y Refusal.TokenTooEarly ▹ λ _. inr es)
 first-checked es (some j) y = refl
 first-checked es none (some i) = refl
 first-checked es none none = refl
 
-pub tokens-checked : (es : List Event) (n : ℕ) {a b r : Outcome} → n ≡ length es → a ≡ placed Refusal.TokenTwice (lowest (twice es) n) → b ≡ placed Refusal.TokenTooEarly (lowest (tooEarly es) n)
-    → r ≡ firstOf a b → asOutcome r es ≡ checkTokens es
+pub tokens-checked : (es : List Event) (n : ℕ) {a b r : Outcome} → n ≡ length es → a ≡ placed Refusal.TokenTwice (lowest (twice es) n) → b ≡ placed Refusal.TokenTooEarly (lowest (takenEarly es) n)
+    → r ≡ firstOf a b → outcomeOf r es ≡ checkTokens es
 unfolding checkTokens
-tokens-checked es n l e f g = rw (g, e, f, l) (first-checked es (lowest (twice es) (length es)) (lowest (tooEarly es) (length es)))
+tokens-checked es n l e f g = rw (g, e, f, l) (first-checked es (lowest (twice es) (length es)) (lowest (takenEarly es) (length es)))

@@ -1,3 +1,4 @@
 pub mod Types
 pub mod TraceText
+pub mod Inner
 pub mod Meaning

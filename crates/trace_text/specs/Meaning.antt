@@ -1,5 +1,5 @@
--- Document 01, "Refusal table" 7 and 8, in its words: what the two checks of the tokens look for. (`twice-iff` and `early-iff`,
--- proofs/TokenMeaning.antt, `token-twice-line` and `token-early-line`, proofs/Accepted.antt, say that they find just this.)
+-- Document 01, "Refusal table" 7 and 8, in its words: what the two checks of the tokens look for. (`twice-iff` and `taken-early-iff`,
+-- proofs/TokenMeaning.antt, `token-twice-line` and `token-early-line`, proofs/Refused.antt, say that they find just this.)
 use mathlib.Core.Path.{_≡_}
 use mathlib.Core.Bool.{true}
 use mathlib.Core.List.{List, [], _∷_}
@@ -21,19 +21,13 @@ pub record TwiceAt (es : List Event) (j : ℕ) : Type 0 where
   pub second : has token (outsAt es j) ≡ true
 
 -- an `in` token of line i stands in `out` of this or a later line; one that is never put out is fine
-pub record EarlyAt (es : List Event) (i : ℕ) : Type 0 where
+pub record TakenEarlyAt (es : List Event) (i : ℕ) : Type 0 where
   pub token : ℕ
   pub line : ℕ
   pub later : i ≤ line
   pub inside : line < length es
   pub taken : has token (insAt es i) ≡ true
   pub given : has token (outsAt es line) ≡ true
-
--- the lowest of n lines of which something holds
-pub record LowestLine (P : ℕ → Type 0) (n j : ℕ) : Type 0 where
-  pub inside : j < n
-  pub here : P j
-  pub none-lower : (k : ℕ) → k < j → P k → ⊥
 
 -- the lines of events, numbered from k on
 abbrev pub printFrom : ℕ → List Event → List (List ℕ)
@@ -53,4 +47,4 @@ pub record IsTrace (s : List ℕ) (es : List Event) : Type 0 where
   pub printed : lines s ≡ printFrom 0 es
   pub written : AllWritten es
   pub once : (j : ℕ) → j < length es → TwiceAt es j → ⊥
-  pub inTime : (i : ℕ) → i < length es → EarlyAt es i → ⊥
+  pub inTime : (i : ℕ) → i < length es → TakenEarlyAt es i → ⊥

@@ -1,5 +1,6 @@
 // The text of a trace: its limits, its lines from the first, its tokens.
 use crate::tokens::check_tokens;
+use refusals::Outcome;
 use refusals::Refusal;
 use text_lines::Limit;
 use trace_events::Trace;
@@ -10,12 +11,11 @@ ghost use mathlib.Core.Logic.{inl};
 ghost use Prim.Native.Nat.{_≤_};
 ghost use lib.ListN.{length};
 ghost use Rattle.text_lines.specs.Lines.{lines};
-ghost use Rattle.trace_text.specs.TraceText.{readLines, onEvents, readTrace, asTrace};
-
-pub enum Outcome {
-    Accepted,
-    Refused(Refusal),
-}
+ghost use Rattle.text_reader.specs.Each.{readEach};
+ghost use Rattle.refusals.specs.Checks.{_▹_};
+ghost use Rattle.trace_line.specs.EventLine.{readEvent};
+ghost use Rattle.trace_text.specs.TraceText.{readTrace, asTrace};
+ghost use Rattle.trace_text.specs.Inner.{checkTokens};
 
 // Accepted, the trace holds the events.
 pub struct TraceRead {
@@ -26,7 +26,7 @@ pub struct TraceRead {
 // The lines from the first, each as an event; the first refusal stands.
 fn read_lines(text: &[u8]) -> TraceRead
     requires { ⌜ length (lines (now text)) ≤ 256 ⌝ }
-    ensures { λ r. ⌜ (asTrace r ≡ readLines 0 (lines (now (text .entry)))) × (r .trace .len ≤ 256) ⌝ }
+    ensures { λ r. ⌜ (asTrace r ≡ readEach readEvent 0 (lines (now (text .entry)))) × (r .trace .len ≤ 256) ⌝ }
 {
     let mut trace = Trace::empty();
     let mut at: usize = 0;
@@ -58,7 +58,7 @@ fn read_lines(text: &[u8]) -> TraceRead
 // The lines, and then the tokens.
 fn read_events(text: &[u8]) -> TraceRead
     requires { ⌜ length (lines (now text)) ≤ 256 ⌝ }
-    ensures { λ r. ⌜ (asTrace r ≡ onEvents (readLines 0 (lines (now (text .entry))))) × (r .trace .len ≤ 256) ⌝ }
+    ensures { λ r. ⌜ (asTrace r ≡ (readEach readEvent 0 (lines (now (text .entry))) ▹ checkTokens)) × (r .trace .len ≤ 256) ⌝ }
 {
     let read = read_lines(text);
     let outcome = read.outcome;

@@ -1,5 +1,5 @@
 // The tokens of a trace: none put out twice, none taken in before it is put out.
-use crate::text::Outcome;
+use refusals::Outcome;
 use refusals::Refusal;
 use trace_events::Tokens;
 use trace_events::Trace;
@@ -8,7 +8,9 @@ ghost use mathlib.Core.Bool.{cond};
 ghost use Prim.Native.Nat.{ℕ, _<_, _≤_};
 ghost use lib.ListN.{getD};
 ghost use Rattle.trace_events.specs.Events.{tokensOf, eventsOf, eventAt, noTokens};
-ghost use Rattle.trace_text.specs.TraceText.{putsOut, checkTokens, firstOf, asOutcome};
+ghost use Rattle.refusals.specs.Checks.{outcomeOf};
+ghost use Rattle.trace_text.specs.TraceText.{putsOut};
+ghost use Rattle.trace_text.specs.Inner.{checkTokens, firstOf};
 
 // What each line puts out: a small array, so that the searches copy no events.
 fn all_outs(t: Trace) -> [Tokens; 256]
@@ -66,7 +68,7 @@ fn refused_if(found: bool, refusal: Refusal) -> Outcome
 // line puts out.
 pub(crate) fn check_tokens(t: Trace) -> Outcome
     requires { ⌜ t .len ≤ 256 ⌝ }
-    ensures { λ r. ⌜ asOutcome r (eventsOf t) ≡ checkTokens (eventsOf t) ⌝ }
+    ensures { λ r. ⌜ outcomeOf r (eventsOf t) ≡ checkTokens (eventsOf t) ⌝ }
 {
     let n = t.len;
     let all = all_outs(t);

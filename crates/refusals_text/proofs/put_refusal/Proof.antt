@@ -10,8 +10,8 @@ returns c =
     let m = c .before .before .before .before .before .before in
     let n = m .before .before .before .before .before in
     let s = n .before .before .before .before in (
-      refusal-put _ _ _ (s .before .returned .ensures) (s .shown .ensures) (put-then (put-then (n .put-item .ensures .0) (m .put-item2 .ensures .0)) (put-one _ 10 _ _ (c .before .before .put-byte .ensures))),
-      omega (arith, n .put-item .ensures .1, m .put-item2 .ensures .1),
+      refusal-put _ _ _ (s .before .returned .ensures) (s .shown .ensures) (put-then (put-then (n .put-key-number .ensures .0) (m .put-key-number2 .ensures .0)) (put-one _ 10 _ _ (c .before .before .put-byte .ensures))),
+      omega (arith, n .put-key-number .ensures .1, m .put-key-number2 .ensures .1),
     )
 
 pub put-refusal-spec : {M : Type 1} → statement M

@@ -7,10 +7,15 @@ enum-told : tie.Need-enum-told
 enum-told c = search needs
 
 returns : tie.Need-returns
-returns c = call-refused _ (c .before .before .before .read-trace .result) (c .before .before .before .read-trace .ensures .0) _ _ (c .before .outcome .given .1)
+returns c =
+    let read = c .before .before .before .read-trace in
+    call-refused _ (read .result) (read .ensures .0) _ _ (c .before .outcome .given .1)
 
 returns-2 : tie.Need-returns-2
-returns-2 c = call-accepted _ (c .before .before .before .before .before .before .before .read-trace .result) (c .before .before .before .before .before .before .before .read-trace .ensures .0) _ _ _ (c .before .before .before .before .before .enum-told .given .1) (c .before .before .list .ensures .0) (c .before .before .list .ensures .1)
+returns-2 c =
+    let told = c .before .before .before .before .before in
+    let read = told .before .before .read-trace in
+    call-accepted _ (read .result) (read .ensures .0) _ (told .enum-told .given .1) (c .before .before .put-list .ensures)
 
 pub list-races-spec : {M : Type 1} → statement M
 list-races-spec =

@@ -13,8 +13,8 @@ use Rattle.list_pairs.specs.Types.{Event}
 use Rattle.list_pairs.specs.List.{test, Pair, pairBytes, ofKind}
 use Rattle.list_verdicts.specs.Kinds.{listed, Kind}
 use Rattle.list_verdicts.specs.Verdicts.{verdictOf}
-use Rattle.list_pairs.specs.Counting.{countOf, rowOf}
-use Rattle.list_pairs.proofs.PairLaws.{row-start, row-most, small-of, count-turn, bytes-turn, rowsBelow, below-most, below-count, below-bytes, all-rows, counted}
+use Rattle.list_pairs.specs.Inner.{countOf}
+use Rattle.list_pairs.proofs.PairLaws.{pairsOf, row-start, row-most, small-of, count-turn, bytes-turn, rowsBelow, below-most, below-count, below-bytes, all-rows, counted}
 use Rattle.list_pairs.proofs.pass.scan.Statement.{statement}
 use Rattle.list_pairs.proofs.pass.scan.Tie as tie
 
@@ -22,8 +22,8 @@ abbrev Inv-loop2 : tie.InvT-loop2
 Inv-loop2 rows list₀ t n sum₀ i a j₀ list sum j =
     (i < j)
     × (j ≤ t .len)
-    × ((k : Kind) → countOf k sum ≡ countOf k sum₀ + length (rowOf k (eventsOf t) i j))
-    × (list ≡ sets list₀ (2 * sum₀ .listed) (pairBytes (rowOf listed (eventsOf t) i j)))
+    × ((k : Kind) → countOf k sum ≡ countOf k sum₀ + length (pairsOf k (eventsOf t) i j))
+    × (list ≡ sets list₀ (2 * sum₀ .listed) (pairBytes (pairsOf listed (eventsOf t) i j)))
 
 abbrev μ-loop2 : tie.MeasureT-loop2
 μ-loop2 rows list₀ t n sum₀ i a j₀ list sum j = t .len - j
@@ -39,7 +39,7 @@ abbrev μ-loop : tie.MeasureT-loop
 μ-loop rows list₀ t n sum₀ i₀ list sum i = t .len - i
 
 loop-holds : tie.Need-loop-holds Inv-loop2 μ-loop2 Inv-loop μ-loop
-loop-holds c = (omega arith, search (needs, length-mapped), c .none .ensures, refl)
+loop-holds c = (omega arith, search (needs, length-mapped), c .no-counts .ensures, refl)
 
 loop2-holds : tie.Need-loop2-holds Inv-loop2 μ-loop2 Inv-loop μ-loop
 loop2-holds c =
@@ -73,13 +73,13 @@ put-listed-requires c κs =
       most q listed,
       s .pre .0,
       ap length (q .loop2 .inv .3),
-      length-sets (l .list) (2 * l .sum .listed) (pairBytes (rowOf listed es (l .i) (q .loop2 .j))),
+      length-sets (l .list) (2 * l .sum .listed) (pairBytes (pairsOf listed es (l .i) (q .loop2 .j))),
       ap length (l .inv .3),
       length-sets (s .args .list .now) 0 (pairBytes (rowsBelow listed es (s .args .t1 .len) (l .i))),
     )
 
-with-requires : tie.Need-with-requires Inv-loop2 μ-loop2 Inv-loop μ-loop
-with-requires c κs =
+counted-requires : tie.Need-counted-requires Inv-loop2 μ-loop2 Inv-loop μ-loop
+counted-requires c κs =
     let q = c .before .before .before .before .before .before .before .before .before in
     let s = q .before .before .before .before .before .before in
     small-of (q .loop2 .sum) (λ k. omega (arith, most q k, s .pre .0))
@@ -100,7 +100,7 @@ loop2-again c =
     ∙ ap₂ (λ (x y : Event). verdictOf (x .operation) (y .operation) (v .before .is-before .result)) (sym (event-at t i (omega (arith, s .pre .0)))) (sym (event-at t (m .j) (omega arith))) in (
       omega arith,
       omega arith,
-      λ k. count-turn es i (m .j) (m .inv .0) before-is verdict k _ _ _ (c .with .ensures k) (m .inv .2 k),
+      λ k. count-turn es i (m .j) (m .inv .0) before-is verdict k _ _ _ (c .counted .ensures k) (m .inv .2 k),
       bytes-turn es i (m .j) (m .inv .0) before-is verdict _ _ _ (l .sum .listed) (m .sum .listed) (m .inv .2 listed) (m .inv .3) (c .before .before .before .put-listed .ensures),
     )
 
@@ -113,9 +113,9 @@ loop-again c =
     let e : m .j ≡ t .len = omega arith in (
       omega arith,
       l .inv .1,
-      λ k. below-count k es (t .len) (l .i) _ _ (m .inv .2 k ∙ ap (λ (n : ℕ). countOf k (l .sum) + length (rowOf k es (l .i) n)) e) (l .inv .2 k),
+      λ k. below-count k es (t .len) (l .i) _ _ (m .inv .2 k ∙ ap (λ (n : ℕ). countOf k (l .sum) + length (pairsOf k es (l .i) n)) e) (l .inv .2 k),
       below-bytes es (t .len) (l .i) _ _ _ (l .sum .listed) (l .inv .2 listed) (l .inv .3)
-          (m .inv .3 ∙ ap (λ (n : ℕ). sets (l .list) (2 * l .sum .listed) (pairBytes (rowOf listed es (l .i) n))) e),
+          (m .inv .3 ∙ ap (λ (n : ℕ). sets (l .list) (2 * l .sum .listed) (pairBytes (pairsOf listed es (l .i) n))) e),
     )
 
 same-length : tie.Need-same-length Inv-loop2 μ-loop2 Inv-loop μ-loop
@@ -147,7 +147,7 @@ scan-spec =
     loop2-holds (λ c. omega arith) (λ c. omega arith) (λ c. omega arith) (λ c. omega arith) (λ c κs. search needs) (λ c κs. search needs)
     mul-put-listed (λ c. omega arith) (λ c. omega arith)
     put-listed-requires
-    with-requires (λ c. omega arith) (λ c. omega arith)
+    counted-requires (λ c. omega arith) (λ c. omega arith)
     loop2-again (λ c. omega arith) (λ c. omega arith)
     loop-again
     same-length

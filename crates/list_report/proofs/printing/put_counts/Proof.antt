@@ -6,15 +6,15 @@ use Rattle.list_report.proofs.printing.put_counts.Statement.{statement}
 use Rattle.list_report.proofs.printing.put_counts.Tie as tie
 
 add-result : tie.Need-add-result
-add-result c = omega (arith, c .before .before .before .before .before .before .put-item4 .ensures .1, c .before .before .before .before .before .before .before .before .before .before .before .before .put-item3 .ensures .1, c .before .before .before .before .before .before .before .before .before .before .before .before .before .before .before .before .before .before .put-item2 .ensures .1, c .before .before .before .before .before .before .before .before .before .before .before .before .before .before .before .before .before .before .before .before .before .before .before .before .put-item .ensures .1, c .before .before .before .before .before .before .before .before .before .before .before .before .before .before .before .before .before .before .before .before .before .before .before .before .before .before .before .before .before .pre)
+add-result c = omega (arith, c .before .before .before .before .before .before .put-key-number4 .ensures .1, c .before .before .before .before .before .before .before .before .before .before .before .before .put-key-number3 .ensures .1, c .before .before .before .before .before .before .before .before .before .before .before .before .before .before .before .before .before .before .put-key-number2 .ensures .1, c .before .before .before .before .before .before .before .before .before .before .before .before .before .before .before .before .before .before .before .before .before .before .before .before .put-key-number .ensures .1, c .before .before .before .before .before .before .before .before .before .before .before .before .before .before .before .before .before .before .before .before .before .before .before .before .before .before .before .before .before .pre)
 
 returns : tie.Need-returns
 unfolding countsLine
 returns c =
     put-then
     (put-then
-    (put-then (put-then (c .before .before .before .before .before .before .before .before .before .before .before .before .before .before .before .before .before .before .before .before .before .before .before .before .put-item .ensures .0) (c .before .before .before .before .before .before .before .before .before .before .before .before .before .before .before .before .before .before .put-item2 .ensures .0)) (c .before .before .before .before .before .before .before .before .before .before .before .before .put-item3 .ensures .0))
-    (c .before .before .before .before .before .before .put-item4 .ensures .0))
+    (put-then (put-then (c .before .before .before .before .before .before .before .before .before .before .before .before .before .before .before .before .before .before .before .before .before .before .before .before .put-key-number .ensures .0) (c .before .before .before .before .before .before .before .before .before .before .before .before .before .before .before .before .before .before .put-key-number2 .ensures .0)) (c .before .before .before .before .before .before .before .before .before .before .before .before .put-key-number3 .ensures .0))
+    (c .before .before .before .before .before .before .put-key-number4 .ensures .0))
     (put-one _ 10 _ _ (c .before .before .put-byte .ensures))
 
 pub put-counts-spec : {M : Type 1} → statement M

@@ -8,8 +8,8 @@ use Rattle.list_report.proofs.printing.put_race.Tie as tie
 returns : tie.Need-returns
 unfolding raceLine
 returns c = (
-  put-then (put-then (c .before .before .before .before .before .before .before .before .before .before .before .put-item .ensures .0) (c .before .before .before .before .before .before .put-item2 .ensures .0)) (put-one _ 10 _ _ (c .before .before .put-byte .ensures)),
-  omega (arith, c .before .before .before .before .before .before .before .before .before .before .before .put-item .ensures .1, c .before .before .before .before .before .before .put-item2 .ensures .1),
+  put-then (put-then (c .before .before .before .before .before .before .before .before .before .before .before .put-key-number .ensures .0) (c .before .before .before .before .before .before .put-key-number2 .ensures .0)) (put-one _ 10 _ _ (c .before .before .put-byte .ensures)),
+  omega (arith, c .before .before .before .before .before .before .before .before .before .before .before .put-key-number .ensures .1, c .before .before .before .before .before .before .put-key-number2 .ensures .1),
 )
 
 pub put-race-spec : {M : Type 1} → statement M

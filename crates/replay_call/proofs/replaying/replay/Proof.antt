@@ -1,7 +1,7 @@
 use mathlib.Core.Path.{sym, ap, _∙_}
 use denote.Ref.{now}
 use Rattle.trace_events.specs.Events.{eventsOf}
-use Rattle.trace_text.specs.TraceText.{asOutcome}
+use Rattle.refusals.specs.Checks.{outcomeOf}
 use Rattle.replay_call.proofs.Leaving.{text-refused, text-accepted, called}
 use borrow.Author.Needs.{needs}
 use Rattle.replay_call.proofs.replaying.replay.Statement.{statement}
@@ -12,7 +12,7 @@ returns c =
     let a = c .before .before .before .before .before .before .before .before .before .args in
     let read = c .before .before .before .read-trace in
     called (now (a .trace)) (now (a .tables)) (now (a .order)) (now (a .tables-out)) (now (a .answers-out))
-    (text-refused _ (sym (ap (λ o. asOutcome o (eventsOf (read .result .trace))) (c .before .outcome .given .1)) ∙ read .ensures .0))
+    (text-refused _ (sym (ap (λ o. outcomeOf o (eventsOf (read .result .trace))) (c .before .outcome .given .1)) ∙ read .ensures .0))
 
 returns-2 : tie.Need-returns-2
 returns-2 c =
@@ -20,7 +20,7 @@ returns-2 c =
     let a = d .before .before .before .before .before .before .before .before .args in
     let read = d .before .before .read-trace in
     called (now (a .trace)) (now (a .tables)) (now (a .order)) (now (a .tables-out)) (now (a .answers-out))
-    (text-accepted _ (sym (ap (λ o. asOutcome o (eventsOf (read .result .trace))) (d .enum-told .given .1)) ∙ read .ensures .0) (c .before .before .before .before .check-tables .ensures))
+    (text-accepted _ (sym (ap (λ o. outcomeOf o (eventsOf (read .result .trace))) (d .enum-told .given .1)) ∙ read .ensures .0) (c .before .before .before .before .check-tables .ensures))
 
 pub replay-spec : {M : Type 1} → statement M
 replay-spec =

@@ -1,18 +1,23 @@
-use mathlib.Core.Path.{_∙_}
+use mathlib.Core.Path.{ap, _∙_}
+use Rattle.refusals.specs.Checks.{outcomeOf}
+use Rattle.trace_events.specs.Events.{eventsOf}
+use Rattle.trace_text.specs.Types.{Outcome}
+use Rattle.trace_text.specs.Inner.{checkTokens}
 use borrow.Author.Needs.{needs}
-use Rattle.trace_text.proofs.Checks.{line-refused, lines-accepted}
+use Rattle.refusals.proofs.Checks.{on-refused, on-accepted}
 use Rattle.trace_text.proofs.text.read_events.Statement.{statement}
 use Rattle.trace_text.proofs.text.read_events.Tie as tie
 
 returns : tie.Need-returns
 returns c =
-    let r = c .before .before .read-lines .ensures in
-    (line-refused _ _ _ (r .0) (c .enum-told .given .1), r .1)
+    let read = c .before .before .read-lines in
+    let refused = c .enum-told .given .1 in
+    (ap (λ (o : Outcome). outcomeOf o (eventsOf (read .result .trace))) refused ∙ on-refused _ _ checkTokens (read .ensures .0) refused, read .ensures .1)
 
 returns-2 : tie.Need-returns-2
 returns-2 c =
-    let r = c .before .before .before .before .read-lines .ensures in
-    (c .check-tokens .ensures ∙ lines-accepted _ _ _ (r .0) (c .before .before .enum-told2 .given .1), r .1)
+    let read = c .before .before .before .before .read-lines in
+    (c .check-tokens .ensures ∙ on-accepted _ _ checkTokens (read .ensures .0) (c .before .before .enum-told2 .given .1), read .ensures .1)
 
 pub read-events-spec : {M : Type 1} → statement M
 read-events-spec =

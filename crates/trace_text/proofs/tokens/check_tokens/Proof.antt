@@ -9,14 +9,14 @@ use Rattle.trace_events.proofs.TraceLaws.{length-events}
 use Rattle.basics.proofs.Arrays.{length-mapped}
 use Rattle.trace_text.specs.Types.{Refusal}
 use Rattle.basics.specs.Searches.{lowest}
-use Rattle.trace_text.specs.TraceText.{twice, tooEarly}
+use Rattle.trace_text.specs.TraceText.{twice, takenEarly}
 use Rattle.trace_text.proofs.TokenChecks.{twice-test, early-test, placed, placed-more, tokens-checked}
 use Rattle.trace_text.proofs.tokens.check_tokens.Statement.{statement}
 use Rattle.trace_text.proofs.tokens.check_tokens.Tie as tie
 
 abbrev Inv-loop : tie.InvT-loop
 Inv-loop t n all a₀ b₀ k₀ a b k =
-    (k ≤ n) × (length (t .events) ≡ 256) × (a ≡ placed Refusal.TokenTwice (lowest (twice (eventsOf t)) k)) × (b ≡ placed Refusal.TokenTooEarly (lowest (tooEarly (eventsOf t)) k))
+    (k ≤ n) × (length (t .events) ≡ 256) × (a ≡ placed Refusal.TokenTwice (lowest (twice (eventsOf t)) k)) × (b ≡ placed Refusal.TokenTooEarly (lowest (takenEarly (eventsOf t)) k))
 
 abbrev μ-loop : tie.MeasureT-loop
 μ-loop t n all a₀ b₀ k₀ a b k = n - k

@@ -1,0 +1,3 @@
+-- The declared types, under one name each.
+pub use Rattle.call_answers.specs.declared.list.Counts.{Counts}
+pub use Rattle.call_answers.specs.declared.list.ListAnswer.{ListAnswer}

@@ -1,0 +1,49 @@
+-- The list that stands in the buffer of its pass: the counts, the bytes, and how many they can be. Assumes nothing.
+use Prim.Native.Nat.{ℕ, _+_, _*_, _≤_}
+use native.Mathlib.Omega.{arith}
+use mathlib.Core.Path.{_≡_, sym, ap, _∙_}
+use mathlib.Core.List.{List}
+use lib.ListN.{length, length-take, take, drop}
+use lib.Seq.{sets, sets-eq, length-sets, take-at}
+use Rattle.call_answers.specs.Inner.{Small}
+use Rattle.trace_events.specs.Events.{eventsOf}
+use Rattle.list_verdicts.specs.Kinds.{Kind, listed}
+use Rattle.list_pairs.specs.Types.{Event, Trace, Counts}
+use Rattle.list_pairs.specs.List.{listOf, count, pairBytes, countsOf, listingOf}
+use Rattle.list_pairs.specs.Inner.{countOf, Holds}
+use Rattle.list_pairs.proofs.PairLaws.{bytes-length, small-of}
+use Rattle.list_pairs.proofs.Sizes.{count-most}
+
+pub events-most : (t : Trace) → t .len ≤ 256 → length (eventsOf t) ≤ 256
+unfolding eventsOf
+events-most t h = omega (arith, length-take (t .len) (t .events))
+
+module _ (es : List Event) (few : length es ≤ 256) (c : Counts) (e : c ≡ countsOf es) where
+  listed-is : c .listed ≡ count listed es
+  unfolding countsOf
+  listed-is = ap (λ (d : Counts). d .listed) e
+
+  pub listed-most : c .listed ≤ 32640
+  listed-most = omega (arith, listed-is, count-most listed es few)
+
+  counts-small : Small c
+  unfolding countsOf
+  counts-small = rw e (small-of (countsOf es) small)
+    where
+      small : (k : Kind) → countOf k (countsOf es) ≤ 65535
+      small Kind.pairs = omega (arith, count-most Kind.pairs es few)
+      small Kind.ordered = omega (arith, count-most Kind.ordered es few)
+      small Kind.commuting = omega (arith, count-most Kind.commuting es few)
+      small Kind.listed = omega (arith, count-most Kind.listed es few)
+
+  bytes-taken : length (pairBytes (listOf es)) ≡ 2 * c .listed
+  bytes-taken = bytes-length (listOf es) ∙ ap (λ (n : ℕ). 2 * n) (sym listed-is)
+
+  pub made : (room bytes : List ℕ) → length room ≡ 131072 → bytes ≡ sets room 0 (pairBytes (listOf es))
+      → Holds es (record { counts = c; length = 2 * c .listed; bytes = bytes })
+  unfolding listingOf
+  made room bytes l h =
+      let taken : take (2 * c .listed) bytes ≡ pairBytes (listOf es) =
+      ap (take (2 * c .listed)) (h ∙ sets-eq (pairBytes (listOf es)) room 0 (omega (arith, bytes-taken, listed-most)))
+      ∙ take-at (pairBytes (listOf es)) (drop (0 + length (pairBytes (listOf es))) room) (2 * c .listed) bytes-taken in
+      record { listing = λ m. record { counts = e m; bytes = taken m }; most = omega (arith, listed-most); within = omega (arith, listed-most, ap length h, length-sets room 0 (pairBytes (listOf es))); small = counts-small }

@@ -1,0 +1,20 @@
+-- What parts of the code answer.
+use mathlib.Core.List.{List}
+use mathlib.Core.Logic.{inr}
+use lib.ListN.{length}
+use Rattle.basics.specs.Searches.{lowest}
+use Rattle.refusals.specs.Checks.{Checked, _▹_, refuseAt}
+use Rattle.trace_text.specs.Types.{Refusal, Event, Outcome}
+use Rattle.trace_text.specs.TraceText.{twice, takenEarly}
+
+-- 7, then 8, of events that are read
+unfoldable pub checkTokens : List Event → Checked (List Event)
+checkTokens es =
+    refuseAt (lowest (twice es) (length es)) Refusal.TokenTwice ▹ λ _.
+    refuseAt (lowest (takenEarly es) (length es)) Refusal.TokenTooEarly ▹ λ _.
+    inr es
+
+-- the first of two outcomes that is a refusal
+abbrev pub firstOf : Outcome → Outcome → Outcome
+firstOf (Outcome.Refused r) other = Outcome.Refused r
+firstOf Outcome.Accepted other = other

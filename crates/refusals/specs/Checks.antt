@@ -7,6 +7,7 @@ use Prim.Native.Nat.{ℕ}
 use lib.Dec.{ltb}
 use lib.ListN.{length}
 use Rattle.basics.specs.Text.{startingWith}
+use Rattle.text_lines.specs.declared.limits.Limit.{Limit}
 use Rattle.refusals.specs.Types.{Refusal, Outcome}
 
 -- what a check hands on: a refusal, or a value
@@ -28,6 +29,13 @@ refuseIf false r = inr tt
 abbrev pub refuseAt : Option ℕ → (ℕ → Refusal) → Checked (Unit {0})
 refuseAt (some place) r = inl (r place)
 refuseAt none r = inr tt
+
+-- refused where a text breaks its limits
+abbrev pub refuseLimit : Limit → Refusal → Refusal → Refusal → Checked (Unit {0})
+refuseLimit Limit.TooLong a b c = inl a
+refuseLimit Limit.Unended a b c = inl b
+refuseLimit Limit.TooManyLines a b c = inl c
+refuseLimit Limit.Kept a b c = inr tt
 
 -- refused where a text is longer than the room that is lent: the bytes needed
 abbrev pub refuseShort : ℕ → List ℕ → (ℕ → Refusal) → Checked (Unit {0})

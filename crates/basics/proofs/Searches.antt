@@ -6,11 +6,12 @@ use mathlib.Core.Path.{_≡_, refl, sym, ap, _∙_}
 use mathlib.Core.Bool.{Bool, true, false, _&&_, false≢true, or-true}
 use mathlib.Core.Logic.{⊎-elim}
 use mathlib.Core.List.{List, [], _∷_}
+use mathlib.Core.Option.{none, some}
 use native.Mathlib.Omega.{arith}
 use lib.Dec.{eqb}
 use borrow.Author.Tests.{eqb-true, eqb-false, eq-eqb}
 use Rattle.basics.proofs.Booleans.{split, and-left, and-right, and-intro, or-cases}
-use Rattle.basics.specs.Searches.{has, anyIn, anyBelow, allBelow, shares}
+use Rattle.basics.specs.Searches.{has, anyIn, anyBelow, allBelow, shares, lowest}
 
 -- ---- some number below n
 -- two tests that agree below n
@@ -77,3 +78,18 @@ all-at p (suc n) i l h =
 pub all-of : (p : ℕ → Bool) (n : ℕ) → ((i : ℕ) → i < n → p i ≡ true) → allBelow p n ≡ true
 all-of p zero h = refl
 all-of p (suc n) h = and-intro (all-of p n (λ i l. h i (omega arith))) (h n (omega arith))
+
+-- ---- the lowest number below n that passes a test
+pub lowest-nowhere : (p : ℕ → Bool) (n : ℕ) → ((j : ℕ) → j < n → p j ≡ false) → lowest p n ≡ none
+unfolding lowest
+lowest-nowhere p zero h = refl
+lowest-nowhere p (suc n) h = rw (lowest-nowhere p n (λ j l. h j (omega arith)), h n (omega arith))
+
+pub lowest-at : (p : ℕ → Bool) (n k : ℕ) → k < n → p k ≡ true → ((j : ℕ) → j < k → p j ≡ false) → lowest p n ≡ some k
+unfolding lowest
+lowest-at p zero k l t f = absurd (omega arith)
+lowest-at p (suc n) k l t f =
+    ⊎-elim
+    (λ e. rw (← e, lowest-nowhere p k f, t))
+    (λ m. rw (lowest-at p n k m t f))
+    (eq-or-lt-of-le (le-of-suc-le-suc l))

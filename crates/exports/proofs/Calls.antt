@@ -2,7 +2,6 @@
 use Prim.Native.Nat.{ℕ}
 use mathlib.Core.List.{List, []}
 use mathlib.Core.Path.{_≡_, refl}
-use Rattle.tables_text.specs.Normal.{asNormal}
 use Rattle.exports.specs.Types.{Refusal, Counts, ListAnswer, NormalAnswer, ReplayAnswer, Refused}
 use Rattle.refusals.specs.Refused.{nothingRefused, refusedAs}
 use Rattle.exports.specs.Calls.{listAs, normalAs, replayAs}
@@ -18,12 +17,12 @@ unfolding listAs
 list-refused trace e h = rw (e, h) refl
 
 pub normal-refused : (tables : List ℕ) {answer : NormalAnswer} {r : Refusal} {x : Refused} → answer ≡ NormalAnswer.Refused r → x ≡ refusedAs [] tables r
-    → record { refused = x; length = 0 } ≡ normalAs tables (asNormal answer)
+    → record { refused = x; length = 0 } ≡ normalAs tables answer
 unfolding normalAs
 normal-refused tables e h = rw (e, h) refl
 
 pub normal-written : (tables : List ℕ) {answer : NormalAnswer} {n : ℕ} {x : Refused} → answer ≡ NormalAnswer.Length n → x ≡ nothingRefused
-    → record { refused = x; length = n } ≡ normalAs tables (asNormal answer)
+    → record { refused = x; length = n } ≡ normalAs tables answer
 unfolding normalAs
 normal-written tables e h = rw (e, h) refl
 

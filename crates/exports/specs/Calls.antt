@@ -1,8 +1,7 @@
 -- What the calls for other programs answer.
 use Prim.Native.Nat.{ℕ}
 use mathlib.Core.List.{List, []}
-use mathlib.Core.Logic.{_⊎_, inl, inr}
-use Rattle.exports.specs.Types.{Refusal, ListAnswer, Listed, Normalised, ReplayAnswer, Replayed}
+use Rattle.exports.specs.Types.{ListAnswer, Listed, NormalAnswer, Normalised, ReplayAnswer, Replayed}
 use Rattle.refusals.specs.Refused.{nothingRefused, refusedAs}
 
 -- the list call on a trace: the counts, or the refusal and counts of 0
@@ -12,9 +11,9 @@ listAs trace (ListAnswer.Counts c) =
 listAs trace (ListAnswer.Refused r) = record { refused = refusedAs trace [] r; pairs = 0; ordered = 0; commuting = 0; listed = 0 }
 
 -- the normaliser on tables: the length of the normal text, or the refusal and a length of 0
-unfoldable pub normalAs : List ℕ → Refusal ⊎ ℕ → Normalised
-normalAs tables (inr n) = record { refused = nothingRefused; length = n }
-normalAs tables (inl r) = record { refused = refusedAs [] tables r; length = 0 }
+unfoldable pub normalAs : List ℕ → NormalAnswer → Normalised
+normalAs tables (NormalAnswer.Length n) = record { refused = nothingRefused; length = n }
+normalAs tables (NormalAnswer.Refused r) = record { refused = refusedAs [] tables r; length = 0 }
 
 -- replay of a trace on tables: the lengths of the end tables and of the answers, or the refusal and lengths of 0
 unfoldable pub replayAs : List ℕ → List ℕ → ReplayAnswer → Replayed

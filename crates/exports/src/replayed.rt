@@ -3,7 +3,9 @@ use refusals::Refused;
 use replay_texts::ReplayAnswer;
 ghost use mathlib.Core.Path.{_≡_};
 ghost use lib.ListN.{length};
-ghost use Rattle.replay_call.specs.Replay.{replayAnswer, tablesAfter, answersAfter};
+ghost use Rattle.refusals.specs.Checks.{written};
+ghost use Rattle.replay_texts.specs.Writing.{replayAnswer, tablesOut, answersOut};
+ghost use Rattle.replay_call.specs.Replay.{replayed};
 ghost use Rattle.exports.specs.Calls.{replayAs};
 
 // The lengths of the end tables and of the answers, or what is refused.
@@ -47,9 +49,9 @@ pub extern "C" fn gellunka_replay<'a>(
     out: &mut [u8],
     replies: &mut [u8],
 ) -> Replayed
-    ensures { λ r. ⌜ r ≡ replayAs (now (trace .entry)) (now (tables .entry)) (replayAnswer (now (trace .entry)) (now (tables .entry)) (now (order .entry)) (length (now (out .entry))) (length (now (replies .entry)))) ⌝ }
-    ensures { λ _. ⌜ now (out .exit) ≡ tablesAfter (now (trace .entry)) (now (tables .entry)) (now (order .entry)) (now (out .entry)) (now (replies .entry)) ⌝ }
-    ensures { λ _. ⌜ now (replies .exit) ≡ answersAfter (now (trace .entry)) (now (tables .entry)) (now (order .entry)) (now (out .entry)) (now (replies .entry)) ⌝ }
+    ensures { λ r. ⌜ r ≡ replayAs (now (trace .entry)) (now (tables .entry)) (replayAnswer (replayed (now (trace .entry)) (now (tables .entry)) (now (order .entry)) (length (now (out .entry))) (length (now (replies .entry))))) ⌝ }
+    ensures { λ _. ⌜ now (out .exit) ≡ written (tablesOut (replayed (now (trace .entry)) (now (tables .entry)) (now (order .entry)) (length (now (out .entry))) (length (now (replies .entry))))) (now (out .entry)) ⌝ }
+    ensures { λ _. ⌜ now (replies .exit) ≡ written (answersOut (replayed (now (trace .entry)) (now (tables .entry)) (now (order .entry)) (length (now (out .entry))) (length (now (replies .entry))))) (now (replies .entry)) ⌝ }
 {
     let answer = replay_call::replay(trace, tables, order, out, replies);
     replay_as(trace, tables, answer)

@@ -1,5 +1,4 @@
 use mathlib.Core.Path.{ap, _∙_}
-use Rattle.tables_text.specs.Normal.{Normalised}
 use Rattle.exports.specs.Calls.{normalAs}
 use borrow.Author.Needs.{needs}
 use Rattle.exports.proofs.normal.gellunka_normalise.Statement.{statement}
@@ -8,7 +7,7 @@ use Rattle.exports.proofs.normal.gellunka_normalise.Tie as tie
 returns : tie.Need-returns
 returns c =
     let e = c .before .before .before .normalise .ensures in
-    (c .normal-as .ensures ∙ ap (normalAs _) (ap (λ (p : Normalised). p .0) e), ap (λ (p : Normalised). p .1) e)
+    (c .normal-as .ensures ∙ ap (normalAs _) (e .0), e .1)
 
 pub gellunka-normalise-spec : {M : Type 1} → statement M
 gellunka-normalise-spec =

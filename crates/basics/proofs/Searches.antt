@@ -112,3 +112,18 @@ module _ (P : ℕ → Type 0) (p : ℕ → Bool) (iff : (j : ℕ) → (p j ≡ t
         go : (x : Option ℕ) → lowest p n ≡ x → Says n x → lowest p n ≡ none
         go none e w = e
         go (some j) e w = absurd (h j (w .inside) (w .here))
+
+-- ---- the lowest number below n that passes a test
+pub lowest-nowhere : (p : ℕ → Bool) (n : ℕ) → ((j : ℕ) → j < n → p j ≡ false) → lowest p n ≡ none
+unfolding lowest
+lowest-nowhere p zero h = refl
+lowest-nowhere p (suc n) h = rw (lowest-nowhere p n (λ j l. h j (omega arith)), h n (omega arith))
+
+pub lowest-at : (p : ℕ → Bool) (n k : ℕ) → k < n → p k ≡ true → ((j : ℕ) → j < k → p j ≡ false) → lowest p n ≡ some k
+unfolding lowest
+lowest-at p zero k l t f = absurd (omega arith)
+lowest-at p (suc n) k l t f =
+    ⊎-elim
+    (λ e. rw (← e, lowest-nowhere p k f, t))
+    (λ m. rw (lowest-at p n k m t f))
+    (eq-or-lt-of-le (le-of-suc-le-suc l))

@@ -1,3 +1,5 @@
 -- The declared types, under one name each.
 pub use Rattle.call_answers.specs.declared.list.Counts.{Counts}
 pub use Rattle.call_answers.specs.declared.list.ListAnswer.{ListAnswer}
+pub use Rattle.call_answers.specs.declared.normal.NormalAnswer.{NormalAnswer}
+pub use Rattle.call_answers.specs.declared.replay.ReplayAnswer.{ReplayAnswer}

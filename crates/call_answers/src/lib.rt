@@ -1,5 +1,9 @@
 // What the calls answer, apart from their buffers.
 pub mod list;
+pub mod normal;
+pub mod replay;
 
 pub use list::Counts;
 pub use list::ListAnswer;
+pub use normal::NormalAnswer;
+pub use replay::ReplayAnswer;

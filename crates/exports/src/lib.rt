@@ -10,9 +10,9 @@ ghost use lib.ListN.{length};
 ghost use Rattle.refusals.specs.Checks.{written};
 ghost use Rattle.exports_values.specs.Values.{listAs, normalAs, replayAs};
 ghost use Rattle.list_call.specs.Races.{listRaces, listAnswer, listOut};
-ghost use Rattle.tables_text.specs.Normal.{normalised};
-ghost use Rattle.replay_call.specs.Replay.{replayAnswer, tablesAfter, answersAfter};
-ghost use Rattle.exports.specs.Normal.{normalAnswer};
+ghost use Rattle.tables_normal.specs.Normal.{normalised, normalAnswer};
+ghost use Rattle.replay_texts.specs.Writing.{replayAnswer, tablesOut, answersOut};
+ghost use Rattle.replay_call.specs.Replay.{replayed};
 
 // The listed pairs of a trace, two bytes each, from the buffer's start. The bytes after them, or all after a refusal, stay as they
 // were.
@@ -28,10 +28,10 @@ pub extern "C" fn gellunka_list_races(trace: &[u8], out: &mut [u8]) -> Listed
 // The normal form of a table text, from the buffer's start. The bytes after it, or all after a refusal, stay as they were.
 #[no_mangle]
 pub extern "C" fn gellunka_normalise(tables: &[u8], out: &mut [u8]) -> Normalised
-    ensures { λ r. ⌜ r ≡ normalAs (now (tables .entry)) (normalAnswer (normalised (now (tables .entry)) (now (out .entry)) .0)) ⌝ }
-    ensures { λ _. ⌜ now (out .exit) ≡ normalised (now (tables .entry)) (now (out .entry)) .1 ⌝ }
+    ensures { λ r. ⌜ r ≡ normalAs (now (tables .entry)) (normalAnswer (normalised (now (tables .entry)) (length (now (out .entry))))) ⌝ }
+    ensures { λ _. ⌜ now (out .exit) ≡ written (normalised (now (tables .entry)) (length (now (out .entry)))) (now (out .entry)) ⌝ }
 {
-    let answer = tables_text::normalise(tables, out);
+    let answer = tables_normal::normalise(tables, out);
     normal_as(tables, answer)
 }
 
@@ -45,9 +45,9 @@ pub extern "C" fn gellunka_replay<'a>(
     out: &mut [u8],
     replies: &mut [u8],
 ) -> Replayed
-    ensures { λ r. ⌜ r ≡ replayAs (now (trace .entry)) (now (tables .entry)) (replayAnswer (now (trace .entry)) (now (tables .entry)) (now (order .entry)) (length (now (out .entry))) (length (now (replies .entry)))) ⌝ }
-    ensures { λ _. ⌜ now (out .exit) ≡ tablesAfter (now (trace .entry)) (now (tables .entry)) (now (order .entry)) (now (out .entry)) (now (replies .entry)) ⌝ }
-    ensures { λ _. ⌜ now (replies .exit) ≡ answersAfter (now (trace .entry)) (now (tables .entry)) (now (order .entry)) (now (out .entry)) (now (replies .entry)) ⌝ }
+    ensures { λ r. ⌜ r ≡ replayAs (now (trace .entry)) (now (tables .entry)) (replayAnswer (replayed (now (trace .entry)) (now (tables .entry)) (now (order .entry)) (length (now (out .entry))) (length (now (replies .entry))))) ⌝ }
+    ensures { λ _. ⌜ now (out .exit) ≡ written (tablesOut (replayed (now (trace .entry)) (now (tables .entry)) (now (order .entry)) (length (now (out .entry))) (length (now (replies .entry))))) (now (out .entry)) ⌝ }
+    ensures { λ _. ⌜ now (replies .exit) ≡ written (answersOut (replayed (now (trace .entry)) (now (tables .entry)) (now (order .entry)) (length (now (out .entry))) (length (now (replies .entry))))) (now (replies .entry)) ⌝ }
 {
     let answer = replay_call::replay(trace, tables, order, out, replies);
     replay_as(trace, tables, answer)

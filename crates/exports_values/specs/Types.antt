@@ -3,8 +3,8 @@ pub use Rattle.refusals.specs.declared.refusal.Refusal.{Refusal}
 pub use Rattle.refusals.specs.declared.refused.Refused.{Refused}
 pub use Rattle.call_answers.specs.declared.list.Counts.{Counts}
 pub use Rattle.call_answers.specs.declared.list.ListAnswer.{ListAnswer}
-pub use Rattle.tables_text.specs.declared.normal.NormalAnswer.{NormalAnswer}
-pub use Rattle.replay_texts.specs.declared.answer.ReplayAnswer.{ReplayAnswer}
+pub use Rattle.call_answers.specs.declared.normal.NormalAnswer.{NormalAnswer}
+pub use Rattle.call_answers.specs.declared.replay.ReplayAnswer.{ReplayAnswer}
 pub use Rattle.exports_values.specs.declared.list.Listed.{Listed}
 pub use Rattle.exports_values.specs.declared.normal.Normalised.{Normalised}
 pub use Rattle.exports_values.specs.declared.replayed.Replayed.{Replayed}

@@ -1,6 +1,6 @@
 // The answer of the normaliser's call.
+use call_answers::NormalAnswer;
 use refusals::Refused;
-use tables_text::NormalAnswer;
 ghost use mathlib.Core.Path.{_≡_};
 ghost use Rattle.exports_values.specs.Values.{normalAs};
 

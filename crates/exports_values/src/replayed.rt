@@ -1,6 +1,6 @@
 // The answer of the replay call.
+use call_answers::ReplayAnswer;
 use refusals::Refused;
-use replay_texts::ReplayAnswer;
 ghost use mathlib.Core.Path.{_≡_};
 ghost use Rattle.exports_values.specs.Values.{replayAs};
 

@@ -1,11 +1,11 @@
 // Reads a table text from standard input, and writes its normal form or what is refused to standard output.
+use call_answers::NormalAnswer;
 use libc::STDIN_FILENO;
 use libc::STDOUT_FILENO;
-use tables_text::NormalAnswer;
 
 fn answer(tables: &[u8]) {
     let mut out = io::large_buffer();
-    let a = tables_text::normalise(tables, &mut out);
+    let a = tables_normal::normalise(tables, &mut out);
     match a {
         NormalAnswer::Length(n) => {
             io::write_all(STDOUT_FILENO, text_lines::front(&out, n));

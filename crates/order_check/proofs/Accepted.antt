@@ -2,8 +2,8 @@
 -- is the lowest (`early-iff`), an order is accepted exactly if none of its events is missing and it keeps happens-before
 -- (`accepted-iff`), and the recorded order is accepted (`recorded-accepted`). Assumes nothing.
 use mathlib.Core.Path.{_≡_, refl, sym, ap, _∙_}
-use mathlib.Core.Logic.{_↔_}
-use mathlib.Core.Bool.{Bool, true, false, _&&_, _||_, cond, false≢true, true≢false, or-true}
+use mathlib.Core.Logic.{_↔_, inl, inr}
+use mathlib.Core.Bool.{Bool, true, false, not, _&&_, _||_, cond, false≢true, true≢false, or-true}
 use mathlib.Core.Option.{Option, none, some}
 use mathlib.Core.List.{List, [], _∷_}
 use Prim.Native.Nat.{ℕ, zero, suc, _+_, _<_, _≤_}
@@ -18,8 +18,9 @@ use Rattle.basics.specs.Searches.{has}
 use Rattle.order_meaning.proofs.OrderLaws.{not-both}
 use Rattle.happens_before.specs.Causality.{step, Chain, before}
 use Rattle.happens_before.proofs.Chains.{before-iff, chain-later}
+use Rattle.refusals.specs.Checks.{_▹_, refuseIf, refuseAt}
 use Rattle.order_check.specs.Types.{Event, Refusal}
-use Rattle.order_check.specs.Schedule.{complete, anyBefore, earlyFrom, firstEarly, tooEarly, orderRefusal, EarlyAt, Lowest, KeepsOrder}
+use Rattle.order_check.specs.Schedule.{complete, anyBefore, earlyFrom, firstEarly, checkOrder, EarlyAt, LowestEarly, KeepsOrder}
 use Rattle.order_check.proofs.Flags.{complete-iff}
 use Rattle.order_check.proofs.SearchLaws.{early-like}
 
@@ -111,13 +112,13 @@ module _ (hb : ℕ → ℕ → Bool) where
       let s = from-front j o (r .later) m (r .after) (r .within) (r .precedes) (p .0) in
       none-early (k + 1) o (p .1) (s .0) (s .2)
 
-  first-early : (k : ℕ) (o : List ℕ) (p : ℕ) → earlyFrom hb k o ≡ some p → (d : ℕ) × (p ≡ k + d) × Lowest hb o d
+  first-early : (k : ℕ) (o : List ℕ) (p : ℕ) → earlyFrom hb k o ≡ some p → (d : ℕ) × (p ≡ k + d) × LowestEarly hb o d
   unfolding earlyFrom
   first-early k [] p h = absurd (some-none (sym h))
   first-early k (j ∷ o) p h = go (anyBefore hb j o) refl h (first-early (k + 1) o p)
     where
-      go : (b : Bool) → anyBefore hb j o ≡ b → cond b (some k) (earlyFrom hb (k + 1) o) ≡ some p → (earlyFrom hb (k + 1) o ≡ some p → (d : ℕ) × (p ≡ k + 1 + d) × Lowest hb o d)
-          → (d : ℕ) × (p ≡ k + d) × Lowest hb (j ∷ o) d
+      go : (b : Bool) → anyBefore hb j o ≡ b → cond b (some k) (earlyFrom hb (k + 1) o) ≡ some p → (earlyFrom hb (k + 1) o ≡ some p → (d : ℕ) × (p ≡ k + 1 + d) × LowestEarly hb o d)
+          → (d : ℕ) × (p ≡ k + d) × LowestEarly hb (j ∷ o) d
       go true f e ih = (0, (let q : k ≡ p = cc in omega arith), record { early = here j o f; lowest = λ m l r. omega arith })
       go false f e ih = let s = ih e in (
         suc (s .0),
@@ -129,20 +130,20 @@ module _ (hb : ℕ → ℕ → Bool) where
       )
 
 -- the position is the lowest that holds an event put before one that happens before it
-pub early-iff : (es : List Event) (o : List ℕ) (p : ℕ) → (firstEarly es o ≡ some p) ↔ Lowest (before es) o p
+pub early-iff : (es : List Event) (o : List ℕ) (p : ℕ) → (firstEarly es o ≡ some p) ↔ LowestEarly (before es) o p
 early-iff es o p = (is-lowest, λ r. go (firstEarly es o) refl r)
   where
-    is-lowest : firstEarly es o ≡ some p → Lowest (before es) o p
+    is-lowest : firstEarly es o ≡ some p → LowestEarly (before es) o p
     is-lowest h = let s = first-early (before es) 0 o p h in let e : p ≡ s .0 = omega (arith, s .1) in rw e (s .2)
 
-    go : (x : Option ℕ) → firstEarly es o ≡ x → Lowest (before es) o p → firstEarly es o ≡ some p
+    go : (x : Option ℕ) → firstEarly es o ≡ x → LowestEarly (before es) o p → firstEarly es o ≡ some p
     go none e r = absurd (none-early (before es) 0 o e p (r .early))
     go (some q) e r =
         let s = first-early (before es) 0 o q e in
         let h : q ≡ s .0 = omega (arith, s .1) in
         e ∙ ap some (h ∙ same (s .0) (s .2) r)
       where
-        same : (d : ℕ) → Lowest (before es) o d → Lowest (before es) o p → d ≡ p
+        same : (d : ℕ) → LowestEarly (before es) o d → LowestEarly (before es) o p → d ≡ p
         same d a b = elim (decLt d p) [ yes l ↦ absurd (b .lowest d l (a .early)) | no m ↦ elim (decLt p d) [ yes l ↦ absurd (a .lowest p l (b .early)) | no n ↦ omega arith ] ]
 
 module _ (es : List Event) (o : List ℕ) (order : IsOrderOf (length es) o) where
@@ -164,29 +165,29 @@ module _ (es : List Event) (o : List ℕ) (order : IsOrderOf (length es) o) wher
           (λ b. b)
 
 -- an order is accepted exactly if it is one of the events and keeps happens-before
-refused-parts : (b : Bool) (x : Option ℕ) → cond b (tooEarly x) (some Refusal.OrderIncomplete) ≡ none → (b ≡ true) × (x ≡ none)
-refused-parts true none e = (refl, refl)
-refused-parts true (some p) e = absurd (some-none e)
-refused-parts false x e = absurd (some-none e)
+passed-parts : (b : Bool) (x : Option ℕ) → (refuseIf (not b) Refusal.OrderIncomplete ▹ λ _. refuseAt x Refusal.EventTooEarly) ≡ inr tt → (b ≡ true) × (x ≡ none)
+passed-parts true none e = (refl, refl)
+passed-parts true (some p) e = let z : _≡_ {A = ℕ} 0 1 = cc in absurd (omega arith)
+passed-parts false x e = let z : _≡_ {A = ℕ} 0 1 = cc in absurd (omega arith)
 
-pub accepted-iff : (es : List Event) (o : List ℕ) → (orderRefusal es o ≡ none) ↔ (IsOrderOf (length es) o × KeepsOrder es o)
-unfolding orderRefusal
+pub accepted-iff : (es : List Event) (o : List ℕ) → (checkOrder es o ≡ inr tt) ↔ (IsOrderOf (length es) o × KeepsOrder es o)
+unfolding checkOrder
 accepted-iff es o = (
-  λ h. let p = refused-parts (complete (length es) o) (firstEarly es o) h in
+  λ h. let p = passed-parts (complete (length es) o) (firstEarly es o) h in
       let order = complete-iff (length es) o .0 (p .0) in
       (order, early-none-iff es o order .0 (p .1)),
   λ p. rw (complete-iff (length es) o .1 (p .0), early-none-iff es o (p .0) .1 (p .1)) refl,
 )
 
--- ---- the two tests in turn
+-- ---- the two checks in turn
 module _ (es : List Event) (o : List ℕ) (n : ℕ) {b : Bool} (size : length es ≡ n) (asked : b ≡ complete n o) where
-  pub refuses-incomplete : b ≡ false → some Refusal.OrderIncomplete ≡ orderRefusal es o
-  unfolding orderRefusal
+  pub refuses-incomplete : b ≡ false → inl Refusal.OrderIncomplete ≡ checkOrder es o
+  unfolding checkOrder
   refuses-incomplete e = rw (size, ← asked, e) refl
 
-  pub refuses-early : b ≡ true → (hb : ℕ → ℕ → Bool) → ((i j : ℕ) → hb i j ≡ before es i j) → (p : Option ℕ) → p ≡ earlyFrom hb 0 o → tooEarly p ≡ orderRefusal es o
-  unfolding orderRefusal
-  refuses-early e hb like p q = rw (size, ← asked, e) (ap tooEarly (q ∙ early-like hb (before es) like 0 o))
+  pub refuses-early : b ≡ true → (hb : ℕ → ℕ → Bool) → ((i j : ℕ) → hb i j ≡ before es i j) → (p : Option ℕ) → p ≡ earlyFrom hb 0 o → refuseAt p Refusal.EventTooEarly ≡ checkOrder es o
+  unfolding checkOrder
+  refuses-early e hb like p q = rw (size, ← asked, e) (ap (λ x. refuseAt x Refusal.EventTooEarly) (q ∙ early-like hb (before es) like 0 o))
 
 -- ---- the recorded order
 has-from : (i b n : ℕ) → b ≤ i → i < b + n → has i (from b n) ≡ true
@@ -211,5 +212,5 @@ pub recorded-keeps : (es : List Event) → KeepsOrder es (from 0 (length es))
 recorded-keeps es i j c = let l = chain-later es c in stands-from i j 0 (length es) (omega arith) (l .0) (omega arith)
 
 -- the recorded order is never refused
-pub recorded-accepted : (es : List Event) → orderRefusal es (from 0 (length es)) ≡ none
+pub recorded-accepted : (es : List Event) → checkOrder es (from 0 (length es)) ≡ inr tt
 recorded-accepted es = accepted-iff es (from 0 (length es)) .1 (recorded-order (length es), recorded-keeps es)

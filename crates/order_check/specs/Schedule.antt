@@ -1,15 +1,16 @@
 -- Document 01, "Refusal table", 21 and 22: which orders of a trace's events are accepted. An order is the list of its bytes.
 use mathlib.Core.Path.{_≡_}
-use mathlib.Core.Bool.{Bool, true, false, _&&_, _||_, cond}
+use mathlib.Core.Bool.{Bool, true, false, not, _&&_, _||_, cond}
 use mathlib.Core.Option.{Option, none, some}
 use mathlib.Core.List.{List, [], _∷_}
-use Prim.Native.Nat.{ℕ, zero, suc, _+_, _<_}
+use Prim.Native.Nat.{ℕ, _+_, _<_}
 use lib.Dec.{eqb}
 use lib.ListN.{length, getD}
 use Rattle.order_meaning.specs.Orders.{stands}
 use Rattle.basics.specs.Searches.{has, allBelow}
 use Rattle.happens_before.specs.Causality.{step, Chain, before}
-use Rattle.order_check.specs.Types.{Event, Refusal, Early, ScheduleAnswer}
+use Rattle.refusals.specs.Checks.{Checked, _▹_, refuseIf, refuseAt}
+use Rattle.order_check.specs.Types.{Event, Refusal}
 
 -- the length is n, and each event 0 .. n-1 stands in the order
 unfoldable pub complete : ℕ → List ℕ → Bool
@@ -29,22 +30,11 @@ earlyFrom hb k (j ∷ o) = cond (anyBefore hb j o) (some k) (earlyFrom hb (k + 1
 abbrev pub firstEarly : List Event → List ℕ → Option ℕ
 firstEarly es o = earlyFrom (before es) 0 o
 
-abbrev pub tooEarly : Option ℕ → Option Refusal
-tooEarly none = none
-tooEarly (some p) = some (Refusal.EventTooEarly p)
-
--- 21 if an order's length is wrong or an event missing; then 22 at that position; else nothing
-unfoldable pub orderRefusal : List Event → List ℕ → Option Refusal
-orderRefusal es o = cond (complete (length es) o) (tooEarly (firstEarly es o)) (some Refusal.OrderIncomplete)
-
--- what the search and the whole call answer
-abbrev pub asPosition : Early → Option ℕ
-asPosition (Early.At p) = some p
-asPosition Early.Nowhere = none
-
-abbrev pub asRefusal : ScheduleAnswer → Option Refusal
-asRefusal ScheduleAnswer.Accepted = none
-asRefusal (ScheduleAnswer.Refused r) = some r
+-- 21 if an order's length is wrong or an event missing; then 22 at that position
+unfoldable pub checkOrder : List Event → List ℕ → Checked (Unit {0})
+checkOrder es o =
+    refuseIf (not (complete (length es) o)) Refusal.OrderIncomplete ▹ λ _.
+    refuseAt (firstEarly es o) Refusal.EventTooEarly
 
 -- a position that holds an event put before one that comes before it: a later position has that one
 pub record EarlyAt (hb : ℕ → ℕ → Bool) (o : List ℕ) (p : ℕ) : Type 0 where
@@ -54,7 +44,7 @@ pub record EarlyAt (hb : ℕ → ℕ → Bool) (o : List ℕ) (p : ℕ) : Type 0
   pub precedes : hb (getD o later 0) (getD o p 0) ≡ true
 
 -- the lowest such position
-pub record Lowest (hb : ℕ → ℕ → Bool) (o : List ℕ) (p : ℕ) : Type 0 where
+pub record LowestEarly (hb : ℕ → ℕ → Bool) (o : List ℕ) (p : ℕ) : Type 0 where
   pub early : EarlyAt hb o p
   pub lowest : (m : ℕ) → m < p → EarlyAt hb o m → ⊥
 

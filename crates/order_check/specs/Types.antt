@@ -2,4 +2,3 @@
 pub use Rattle.trace_events.specs.declared.event.Event.{Event}
 pub use Rattle.refusals.specs.declared.refusal.Refusal.{Refusal}
 pub use Rattle.order_check.specs.declared.search.Early.{Early}
-pub use Rattle.order_check.specs.declared.accepting.ScheduleAnswer.{ScheduleAnswer}

@@ -5,8 +5,7 @@ pub mod completeness;
 pub mod recorded;
 pub mod search;
 
-pub use accepting::ScheduleAnswer;
-pub use accepting::order_refusal;
+pub use accepting::check_order;
 pub use completeness::is_complete;
 pub use recorded::recorded_order;
 pub use search::Early;

@@ -2,7 +2,8 @@
 use happens_before::is_before;
 ghost use mathlib.Core.Path.{_≡_};
 ghost use Rattle.happens_before.specs.Rows.{bit};
-ghost use Rattle.order_check.specs.Schedule.{earlyFrom, asPosition};
+ghost use Rattle.order_check.specs.Schedule.{earlyFrom};
+ghost use Rattle.order_check.specs.Inner.{asPosition};
 
 pub enum Early {
     At(usize),

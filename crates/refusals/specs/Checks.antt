@@ -50,3 +50,8 @@ written (inr text) old = startingWith text old
 abbrev pub outcomeOf : {A : Type 0} → Outcome → A → Checked A
 outcomeOf Outcome.Accepted a = inr a
 outcomeOf (Outcome.Refused r) a = inl r
+
+-- refused where there is no value
+abbrev pub refuseNone : {A : Type 0} → Option A → Refusal → Checked A
+refuseNone none r = inl r
+refuseNone (some a) r = inr a

@@ -1,5 +1,2 @@
-pub mod RecordedOrder
-pub mod SameTexts
-pub mod Refusing
-pub mod Demand3
 pub mod Leaving
+pub mod Theorems

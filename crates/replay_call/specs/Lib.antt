@@ -1,3 +1,3 @@
 pub mod Types
-pub mod Allowed
 pub mod Replay
+pub mod Inner

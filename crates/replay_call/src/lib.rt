@@ -1,4 +1,4 @@
-// Replay: what an order of a trace's events does to the tables of a text, and demand 3.
+// Replay: what an order of a trace's events does to the tables of a text.
 pub mod replaying;
 
 pub use replaying::replay;

@@ -1,9 +1,9 @@
 // Replays the traces of its data files in the recorded order, into buffers that are a byte too short, and in the orders of another
 // file, a line for each. What must come out is in the file `stdout`: `ops` has each operation and its answers, each on a switch of
 // its own; `small` all 120 orders of five events, and orders that are none; `full` 256 events on 256 entries.
+use call_answers::ReplayAnswer;
 use libc::STDOUT_FILENO;
 use program_input::Input;
-use replay_texts::ReplayAnswer;
 ghost use Rattle.io.specs.Counts.{Counts};
 
 // An answer: both texts, or the refusal.

@@ -1,5 +1,5 @@
 // The end tables and the answers, written once both are known to fit.
-use crate::answer::ReplayAnswer;
+use call_answers::ReplayAnswer;
 use refusals::Refusal;
 use replay_answers::Kept;
 use rows::Rows;
@@ -7,7 +7,8 @@ ghost use Prim.Native.Nat.{_≤_};
 ghost use lib.ListN.{length};
 ghost use Rattle.rows.specs.Rows.{rowsOf};
 ghost use Rattle.replay_answers.specs.Answers.{keptAt};
-ghost use Rattle.replay_texts.specs.Writing.{bothTexts, fitting, Leaves};
+ghost use Rattle.replay_texts.specs.Writing.{bothTexts};
+ghost use Rattle.replay_texts.specs.Inner.{fittingBoth, Leaves};
 
 // Both texts, each from its buffer's start; nothing is written where one of them does not fit.
 pub fn write_both(
@@ -18,9 +19,9 @@ pub fn write_both(
     replies: &mut [u8],
 ) -> ReplayAnswer
     requires { ⌜ (rows .len ≤ 512) × (n ≤ 256) ⌝ }
-    ensures { λ r. ⌜ Leaves (fitting (bothTexts (rowsOf rows) (keptAt answers) n) (length (now (out .entry))) (length (now (replies .entry)))) r (now (out .entry)) (now (out .exit)) (now (replies .entry)) (now (replies .exit)) ⌝ }
+    ensures { λ r. ⌜ Leaves (fittingBoth (bothTexts (rowsOf rows) (keptAt answers) n) (length (now (out .entry))) (length (now (replies .entry)))) r (now (out .entry)) (now (out .exit)) (now (replies .entry)) (now (replies .exit)) ⌝ }
 {
-    let tables_need = tables_text::normal_length(rows);
+    let tables_need = tables_normal::normal_length(rows);
     if out.len() < tables_need {
         return ReplayAnswer::Refused(Refusal::TablesShort(tables_need));
     }
@@ -28,7 +29,7 @@ pub fn write_both(
     if replies.len() < answers_need {
         return ReplayAnswer::Refused(Refusal::AnswersShort(answers_need));
     }
-    let a = tables_text::write_normal(out, rows);
+    let a = tables_normal::write_normal(out, rows);
     let b = replay_answers::write_answers(replies, answers, n);
     ReplayAnswer::Lengths(a, b)
 }

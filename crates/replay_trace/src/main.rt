@@ -1,9 +1,9 @@
 // replay_trace TRACE TABLES [ORDER]: replays the trace of a file from the tables of another, in the order whose bytes a third holds,
 // one for each event; left out, in the recorded order. Prints the end tables and then the answers, or what is refused.
+use call_answers::ReplayAnswer;
 use libc::STDERR_FILENO;
 use libc::STDOUT_FILENO;
 use program_input::Input;
-use replay_texts::ReplayAnswer;
 ghost use Rattle.io.specs.Counts.{Counts};
 
 // Reads the file that an argument names.

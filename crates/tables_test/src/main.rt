@@ -1,7 +1,7 @@
 // Normalises the table texts of its data files, and each accepted one again into a buffer that is a byte too short for it.
 // What must come out is in the file `stdout`.
+use call_answers::NormalAnswer;
 use libc::STDOUT_FILENO;
-use tables_text::NormalAnswer;
 
 // The numbered files: 00 to 03 the same rules in four orders; 04 no line, 05 one, 06 256 lines; 07 to 14 refusals 13, 16, 11, 12 and 14
 // by their lines; 15 to 19 address bits, and 14, 15 and 16 in their order; the rest malformed lines.
@@ -20,7 +20,7 @@ fn answer(tables: &[u8], a: NormalAnswer, out: &[u8]) {
 }
 
 fn normalise_into(tables: &[u8], out: &mut [u8]) {
-    let a = tables_text::normalise(tables, out);
+    let a = tables_normal::normalise(tables, out);
     answer(tables, a, out);
 }
 
@@ -34,7 +34,7 @@ fn normalise_within(tables: &[u8], out: &mut [u8], room: usize) {
 // Into an output with room for all, and then into one that is a byte too short for an accepted text.
 fn normalise_twice(tables: &[u8], out: &mut [u8]) {
     normalise_into(tables, out);
-    let a = tables_text::normalise(tables, out);
+    let a = tables_normal::normalise(tables, out);
     match a {
         NormalAnswer::Length(n) => {
             if 0 < n {

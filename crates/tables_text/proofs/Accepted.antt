@@ -10,6 +10,7 @@ use lib.Dec.{eqb}
 use lib.ListN.{length}
 use Rattle.text_numbers.proofs.Readers.{on-cond}
 use Rattle.text_reader.proofs.Each.{refuses}
+use Rattle.refusals.specs.Checks.{Checked, _▹_, refuseLimit}
 use Rattle.text_lines.specs.Lines.{lines}
 use Rattle.text_lines.specs.Limits.{limitOf, Within}
 use Rattle.text_lines.proofs.LimitLaws.{within-limit, limit-within}
@@ -20,8 +21,10 @@ use Rattle.rows.proofs.RowLaws.{length-insert}
 use Rattle.rows.proofs.TablesOf.{sorted-table}
 use Rattle.rows_sort.proofs.SortLaws.{InOrder, sort-rows}
 use Rattle.tables_text.specs.Types.{Entry, Refusal, Limit, Row}
-use Rattle.tables_text.specs.TableText.{readRows, sorted, inOrder, withinLimits, readTables, Holds, RowInRange}
-use Rattle.tables_text.proofs.Lines.{ReadAs, read-as, as-read, same-length, in-range, line-of, mem-at}
+use Rattle.tables_text.specs.TableText.{readTables, Holds, RowInRange}
+use Rattle.tables_text.specs.Inner.{readRows, sortedRows}
+use Rattle.tables_text.proofs.Sorting.{order-checked, checked-order}
+use Rattle.tables_text.proofs.Lines.{ReadAs, read-as, as-read, same-length, in-range, on-line, mem-at}
 
 -- ---- an accepted text: none of the refusals applies to it
 pub record Accepted (s : List ℕ) (rs : List Row) : Type 0 where
@@ -30,27 +33,24 @@ pub record Accepted (s : List ℕ) (rs : List Row) : Type 0 where
   pub read : ReadAs 0 (lines s) each
   pub order : sortRows each ≡ inr rs
 
-sorted-as : (s : List ℕ) (rs : List Row) → Within s → (x : Refusal ⊎ List Row) → readRows 0 (lines s) ≡ x → sorted x ≡ inr rs → Accepted s rs
-sorted-as s rs w (inl e) p q = refuses q
-sorted-as s rs w (inr ls) p q = record { within = w; each = ls; read = read-as 0 (lines s) ls p; order = go (sortRows ls) q }
-  where
-    go : (y : ℕ ⊎ List Row) → inOrder y ≡ inr rs → y ≡ inr rs
-    go (inl k) e = refuses e
-    go (inr qs) e = let h : qs ≡ rs = cc in ap inr h
-
 accepted : (s : List ℕ) (rs : List Row) → readTables s ≡ inr rs → Accepted s rs
 unfolding readTables
 accepted s rs e = go (limitOf s) refl e
   where
-    go : (x : Limit) → limitOf s ≡ x → withinLimits x (sorted (readRows 0 (lines s))) ≡ inr rs → Accepted s rs
+    lines-as : Within s → (x : Checked (List Row)) → readRows s ≡ x → (x ▹ sortedRows) ≡ inr rs → Accepted s rs
+    lines-as w (inl f) p q = refuses q
+    lines-as w (inr ls) p q = record { within = w; each = ls; read = read-as 0 (lines s) ls p; order = checked-order ls rs q }
+
+    go : (x : Limit) → limitOf s ≡ x
+        → (refuseLimit x Refusal.TablesTooLong Refusal.TablesUnended Refusal.TablesTooManyLines ▹ λ _. readRows s ▹ sortedRows) ≡ inr rs → Accepted s rs
     go Limit.TooLong p q = refuses q
     go Limit.Unended p q = refuses q
     go Limit.TooManyLines p q = refuses q
-    go Limit.Kept p q = sorted-as s rs (limit-within s p) (readRows 0 (lines s)) refl q
+    go Limit.Kept p q = lines-as (limit-within s p) (readRows s) refl q
 
 pub accepting : (s : List ℕ) (rs : List Row) → Accepted s rs → readTables s ≡ inr rs
 unfolding readTables
-accepting s rs a = rw (within-limit s (a .within), as-read 0 (lines s) (a .each) (a .read), a .order)
+accepting s rs a = rw (within-limit s (a .within), as-read 0 (lines s) (a .each) (a .read)) (order-checked (a .each) rs (a .order))
 
 -- ---- what holds of an accepted text and its rows
 sort-length : (k : ℕ) (earlier ls rs : List Row) → sortFrom k earlier ls ≡ inr rs → length rs ≤ length earlier + length ls
@@ -90,8 +90,8 @@ module _ (s : List ℕ) (rs : List Row) (e : readTables s ≡ inr rs) where
   -- its rows are those of its lines
   pub accepted-holds : (r : Row) → Holds s r ↔ List·Memᴰ r rs
   accepted-holds r = (
-    λ (k, w). each-in-order .back r (mem-at (all .each) r .1 (k, line-of 0 (lines s) (all .each) (all .read) k r .1 w)),
-    λ m. let (k, p) = mem-at (all .each) r .0 (each-in-order .forth r m) in (k, line-of 0 (lines s) (all .each) (all .read) k r .0 p),
+    λ (k, w). each-in-order .back r (mem-at (all .each) r .1 (k, on-line 0 (lines s) (all .each) (all .read) k r .1 w)),
+    λ m. let (k, p) = mem-at (all .each) r .0 (each-in-order .forth r m) in (k, on-line 0 (lines s) (all .each) (all .read) k r .0 p),
   )
 
   -- switches rising, then table order

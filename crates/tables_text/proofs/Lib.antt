@@ -1,6 +1,6 @@
 pub mod RowFormat
 pub mod Lines
+pub mod Sorting
 pub mod Checks
-pub mod Writing
 pub mod Accepted
-pub mod Theorems
+pub mod KeyTwice

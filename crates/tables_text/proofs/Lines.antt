@@ -1,6 +1,6 @@
 -- The rows of a text's lines, line by line.
 use Prim.Native.Nat.{ℕ, zero, suc, _+_}
-use mathlib.Core.Bool.{Bool, true, false, cond}
+use mathlib.Core.Bool.{Bool, true, false, not}
 use mathlib.Core.List.{List, [], _∷_, map, List·Memᴰ, List·Memᴰ·head, List·Memᴰ·tail, List·Memᴰ·cases-cons, List·Memᴰ·not-nil}
 use mathlib.Core.Logic.{_↔_, _⊎_, inl, inr, ⊎-elim}
 use mathlib.Core.Option.{Option, none, some, Option·some-injective}
@@ -8,10 +8,12 @@ use mathlib.Core.Path.{_≡_, refl, sym, _∙_, ap}
 use native.Mathlib.Omega.{arith}
 use lib.ListN.{length, getElem?}
 use Rattle.text_reader.proofs.Each.{refuses, accepts, Each, each-length, each-only, each-reads, each-refused}
+use Rattle.text_reader.specs.Each.{readEach}
 use Rattle.text_numbers.proofs.Readers.{nothing}
+use Rattle.refusals.specs.Checks.{_▹_, refuseNone, refuseIf}
 use Rattle.text_fields.specs.Written.{clearEntry}
 use Rattle.tables_text.specs.Types.{Row, Refusal}
-use Rattle.tables_text.specs.TableText.{printRow, readRow, checkRow, readLine, readRows, RowInRange}
+use Rattle.tables_text.specs.TableText.{printRow, readRow, readRowLine, RowInRange}
 use Rattle.tables_text.proofs.RowFormat.{row-format, row-range}
 
 -- a line is the text of its row, and the row is in range
@@ -22,45 +24,48 @@ abbrev pub ReadAs : ℕ → List (List ℕ) → List Row → Type 0
 ReadAs = Each RowOf
 
 -- ---- a line
-line-row : (k : ℕ) (l : List ℕ) (r : Row) (o : Option Row) → readRow l ≡ o → checkRow k o ≡ inr r → (readRow l ≡ some r) × RowInRange r
-line-row k l r none q e = refuses e
-line-row k l r (some x) q e = go (clearEntry (x .entry)) refl e
+only-row : (k : ℕ) (l : List ℕ) (r : Row) → readRowLine k l ≡ inr r → RowOf k l r
+unfolding readRowLine
+only-row k l r e = go (readRow l) refl e
   where
-    go : (b : Bool) → clearEntry (x .entry) ≡ b → cond b (inr x) (inl (Refusal.TablesAddressBit k)) ≡ inr r → (readRow l ≡ some r) × RowInRange r
-    go true c p =
+    fits : (x : Row) (b : Bool) → readRow l ≡ some x → clearEntry (x .entry) ≡ b → (refuseIf (not b) (Refusal.TablesAddressBit k) ▹ λ _. inr x) ≡ inr r → RowOf k l r
+    fits x true q c p =
         let h : x ≡ r = cc in
         rw (← h) (q, row-range x .0 (row-format l x .0 q .0, c))
-    go false c p = refuses p
+    fits x false q c p = refuses p
 
-only-row : (k : ℕ) (l : List ℕ) (r : Row) → readLine k l ≡ inr r → RowOf k l r
-unfolding readLine
-only-row k l r e = line-row k l r (readRow l) refl e
+    go : (o : Option Row) → readRow l ≡ o → (refuseNone o (Refusal.TablesMalformed k) ▹ λ x. refuseIf (not (clearEntry (x .entry))) (Refusal.TablesAddressBit k) ▹ λ _. inr x) ≡ inr r → RowOf k l r
+    go none q p = refuses p
+    go (some x) q p = fits x (clearEntry (x .entry)) q refl p
 
-row-line : (k : ℕ) (l : List ℕ) (r : Row) → RowOf k l r → readLine k l ≡ inr r
-unfolding readLine
+row-line : (k : ℕ) (l : List ℕ) (r : Row) → RowOf k l r → readRowLine k l ≡ inr r
+unfolding readRowLine
 row-line k l r h = rw (h .0, row-range r .1 (h .1) .1)
 
--- ---- the lines
-pub read-as : (k : ℕ) (ls : List (List ℕ)) (rs : List Row) → readRows k ls ≡ inr rs → ReadAs k ls rs
-read-as = each-only readLine RowOf only-row
-
-pub as-read : (k : ℕ) (ls : List (List ℕ)) (rs : List Row) → ReadAs k ls rs → readRows k ls ≡ inr rs
-as-read = each-reads readLine RowOf row-line
-
 -- no line is refused for its key
-other-refusal : (k j : ℕ) (o : Option Row) → checkRow k o ≡ inl (Refusal.KeyTwice j) → ⊥
-other-refusal k j none e = let z : _≡_ {A = ℕ} 0 1 = cc in omega arith
-other-refusal k j (some x) e = go (clearEntry (x .entry)) e
+other-refusal : (k j : ℕ) (l : List ℕ) → readRowLine k l ≡ inl (Refusal.KeyTwice j) → ⊥
+unfolding readRowLine
+other-refusal k j l e = go (readRow l) e
   where
-    go : (b : Bool) → cond b (inr x) (inl (Refusal.TablesAddressBit k)) ≡ inl (Refusal.KeyTwice j) → ⊥
-    go true p = accepts p
-    go false p = let z : _≡_ {A = ℕ} 0 1 = cc in omega arith
+    fits : (x : Row) (b : Bool) → (refuseIf (not b) (Refusal.TablesAddressBit k) ▹ λ _. inr x) ≡ inl (Refusal.KeyTwice j) → ⊥
+    fits x true p = accepts p
+    fits x false p = let z : _≡_ {A = ℕ} 0 1 = cc in omega arith
 
-pub no-key-twice : (k j : ℕ) (ls : List (List ℕ)) → readRows k ls ≡ inl (Refusal.KeyTwice j) → ⊥
-unfolding readLine
+    go : (o : Option Row) → (refuseNone o (Refusal.TablesMalformed k) ▹ λ x. refuseIf (not (clearEntry (x .entry))) (Refusal.TablesAddressBit k) ▹ λ _. inr x) ≡ inl (Refusal.KeyTwice j) → ⊥
+    go none p = let z : _≡_ {A = ℕ} 0 1 = cc in omega arith
+    go (some x) p = fits x (clearEntry (x .entry)) p
+
+-- ---- the lines
+pub read-as : (k : ℕ) (ls : List (List ℕ)) (rs : List Row) → readEach readRowLine k ls ≡ inr rs → ReadAs k ls rs
+read-as = each-only readRowLine RowOf only-row
+
+pub as-read : (k : ℕ) (ls : List (List ℕ)) (rs : List Row) → ReadAs k ls rs → readEach readRowLine k ls ≡ inr rs
+as-read = each-reads readRowLine RowOf row-line
+
+pub no-key-twice : (k j : ℕ) (ls : List (List ℕ)) → readEach readRowLine k ls ≡ inl (Refusal.KeyTwice j) → ⊥
 no-key-twice k j ls e =
-    let (i, l, a, b, p) = each-refused readLine k ls (Refusal.KeyTwice j) e in
-    other-refusal i j (readRow l) p
+    let (i, l, a, b, p) = each-refused readRowLine k ls (Refusal.KeyTwice j) e in
+    other-refusal i j l p
 
 -- ---- what the lines hold
 pub same-length : (k : ℕ) (ls : List (List ℕ)) (rs : List Row) → ReadAs k ls rs → length ls ≡ length rs
@@ -76,15 +81,15 @@ in-range n (l ∷ ls) (x ∷ rs) h r m = ⊎-elim (λ e. rw e (h .0 .1)) (in-ran
 abbrev LineOf : List (List ℕ) → ℕ → Row → Type 0
 LineOf ls k r = (l : List ℕ) × (getElem? ls k ≡ some l) × (readRow l ≡ some r)
 
-pub line-of : (n : ℕ) (ls : List (List ℕ)) (rs : List Row) → ReadAs n ls rs → (k : ℕ) (r : Row) → (getElem? rs k ≡ some r) ↔ LineOf ls k r
-line-of n [] [] h k r = (λ e. nothing e, λ w. nothing (w .1))
-line-of n [] (x ∷ rs) h k r = absurd h
-line-of n (l ∷ ls) [] h k r = absurd h
-line-of n (l ∷ ls) (x ∷ rs) h zero r = (
+pub on-line : (n : ℕ) (ls : List (List ℕ)) (rs : List Row) → ReadAs n ls rs → (k : ℕ) (r : Row) → (getElem? rs k ≡ some r) ↔ LineOf ls k r
+on-line n [] [] h k r = (λ e. nothing e, λ w. nothing (w .1))
+on-line n [] (x ∷ rs) h k r = absurd h
+on-line n (l ∷ ls) [] h k r = absurd h
+on-line n (l ∷ ls) (x ∷ rs) h zero r = (
   λ e. (l, refl, h .0 .0 ∙ e),
   λ w. sym (h .0 .0) ∙ ap readRow (Option·some-injective _ _ (w .1)) ∙ w .2,
 )
-line-of n (l ∷ ls) (x ∷ rs) h (suc k) r = line-of (n + 1) ls rs (h .1) k r
+on-line n (l ∷ ls) (x ∷ rs) h (suc k) r = on-line (n + 1) ls rs (h .1) k r
 
 -- the members of a list are those at its places
 pub mem-at : {A : Type 0} (rs : List A) (r : A) → List·Memᴰ r rs ↔ ((k : ℕ) × (getElem? rs k ≡ some r))

@@ -1,5 +1,5 @@
 -- The text of a line: exactly the texts of rows are read, each as its row.
-use Prim.Native.Nat.{ℕ, _≤_}
+use Prim.Native.Nat.{ℕ}
 use mathlib.Core.Bool.{true}
 use mathlib.Core.List.{List}
 use mathlib.Core.Logic.{_↔_}
@@ -8,14 +8,12 @@ use mathlib.Core.Path.{_≡_, refl, _∙_, ap}
 use native.Mathlib.Omega.{arith}
 use borrow.Author.Tests.{eq-eqb, eqb-true}
 use lib.Dec.{eqb}
-use lib.ListN.{length, length-append}
+use lib.ListN.{length}
 use Rattle.basics.specs.Text.{bytes}
 use Rattle.text_numbers.proofs.Readers.{nothing, on-cond}
 use Rattle.text_numbers.proofs.Numbers.{number-format}
 use Rattle.text_numbers.proofs.Format.{Format, keyed-format, along, both-format, whole}
-use Rattle.text_numbers.proofs.Print.{print-length}
 use Rattle.text_fields.proofs.EntryFormats.{entry-follows, entry-format}
-use Rattle.text_put_fields.proofs.Lengths.{entry-length}
 use Rattle.text_fields.proofs.Ranges.{entry-range}
 use Rattle.text_fields.specs.Written.{clearEntry}
 use Rattle.tables_text.specs.Types.{Row}
@@ -52,7 +50,3 @@ row-range r = (
   λ (w, c). record { switch = w .switch; entry = entry-range (r .entry) .0 (w .entry, c) },
   λ i. let (w, c) = entry-range (r .entry) .1 (i .entry) in (record { switch = i .switch; entry = w }, c),
 )
-
-pub row-length : (r : Row) → length (printRow r) ≤ 160
-unfolding printRow
-row-length r = simp length-append (omega (arith, print-length (r .switch), entry-length (r .entry)))

@@ -1,3 +1,3 @@
 pub mod Types
 pub mod TableText
-pub mod Normal
+pub mod Inner

@@ -1,14 +1,15 @@
--- Document 01, "Tables and replay": a table text, and what is read from it. That `readRow` reads the texts of `printRow` and no
--- others is proved in proofs/RowFormat.antt.
+-- Document 01, "Tables and replay" and "Refusal table": a table text, and what is read from it. That `readRow` reads the texts of
+-- `printRow` and no others is proved in proofs/RowFormat.antt.
 use Prim.Native.Nat.{ℕ, _<_}
-use mathlib.Core.Bool.{cond}
+use mathlib.Core.Bool.{cond, not}
 use mathlib.Core.List.{List, [], _∷_, _++_}
-use mathlib.Core.Logic.{_↔_, _⊎_, inl, inr}
+use mathlib.Core.Logic.{_↔_, inr}
 use mathlib.Core.Option.{Option, none, some}
 use mathlib.Core.Path.{_≡_}
 use lib.Dec.{eqb}
 use lib.ListN.{length, getElem?}
 use Rattle.basics.specs.Text.{bytes}
+use Rattle.basics.specs.Searches.{lowest}
 use Rattle.text_lines.specs.Lines.{lines}
 use Rattle.text_lines.specs.Limits.{limitOf}
 use Rattle.text_reader.specs.Each.{readEach}
@@ -16,12 +17,13 @@ use Rattle.text_numbers.specs.Reading.{Reader, mapped, keyed, both}
 use Rattle.text_numbers.specs.Number.{readNumber}
 use Rattle.text_numbers.specs.Print.{printNumber}
 use Rattle.flow.specs.Entries.{EntryInRange}
+use Rattle.refusals.specs.Checks.{Checked, _▹_, refuseNone, refuseIf, refuseAt, refuseLimit}
 use Rattle.text_fields.specs.Print.{printEntry}
 use Rattle.text_fields.specs.Read.{readEntry}
 use Rattle.text_fields.specs.Written.{EntryWritten, clearEntry}
-use Rattle.rows.specs.Rows.{row, rowsOf}
-use Rattle.rows_sort.specs.Sorting.{sortRows}
-use Rattle.tables_text.specs.Types.{Refusal, Limit, Row, RowRead, Outcome, TablesRead}
+use Rattle.rows.specs.Rows.{row, insertRow}
+use Rattle.rows_sort.specs.Sorting.{standsEarlier}
+use Rattle.tables_text.specs.Types.{Refusal, Row}
 
 -- the text of a line: switch, then entry
 unfoldable pub printRow : Row → List ℕ
@@ -50,37 +52,33 @@ pub record RowInRange (r : Row) : Type 0 where
   pub switch : r .switch < 16
   pub entry : EntryInRange (r .entry)
 
+-- line k: 14 where it is malformed, 15 where an address bit stands past its prefix; else its row
+unfoldable pub readRowLine : ℕ → List ℕ → Checked Row
+readRowLine k l =
+    refuseNone (readRow l) (Refusal.TablesMalformed k) ▹ λ r.
+    refuseIf (not (clearEntry (r .entry))) (Refusal.TablesAddressBit k) ▹ λ _.
+    inr r
+
 -- ---- a text
--- line k is malformed, has an address bit past its prefix, or is a row
-abbrev pub checkRow : ℕ → Option Row → Refusal ⊎ Row
-checkRow k none = inl (Refusal.TablesMalformed k)
-checkRow k (some r) = cond (clearEntry (r .entry)) (inr r) (inl (Refusal.TablesAddressBit k))
+-- the lowest line whose switch and key stand on an earlier one
+abbrev pub firstTwice : List Row → Option ℕ
+firstTwice rs = lowest (standsEarlier rs) (length rs)
 
-unfoldable pub readLine : ℕ → List ℕ → Refusal ⊎ Row
-readLine k l = checkRow k (readRow l)
+-- rows put one after the other at their places, switches rising, then table order
+unfoldable pub placed : List Row → List Row → List Row
+placed earlier [] = earlier
+placed earlier (r ∷ rs) = placed (insertRow r earlier) rs
 
--- the rows of the lines from line k on
-abbrev pub readRows : ℕ → List (List ℕ) → Refusal ⊎ List Row
-readRows = readEach readLine
-
--- the rows in order, switches rising, then table order; or the first line whose switch and key stand on an earlier one
-abbrev pub inOrder : ℕ ⊎ List Row → Refusal ⊎ List Row
-inOrder (inl k) = inl (Refusal.KeyTwice k)
-inOrder (inr rs) = inr rs
-
-abbrev pub sorted : Refusal ⊎ List Row → Refusal ⊎ List Row
-sorted (inl e) = inl e
-sorted (inr rs) = inOrder (sortRows rs)
+abbrev pub inOrder : List Row → List Row
+inOrder rs = placed [] rs
 
 -- the rows of a table text, in order, or the first refusal: 11, 12, 13; on each line 14, 15; 16
-abbrev pub withinLimits : Limit → Refusal ⊎ List Row → Refusal ⊎ List Row
-withinLimits Limit.TooLong rest = inl Refusal.TablesTooLong
-withinLimits Limit.Unended rest = inl Refusal.TablesUnended
-withinLimits Limit.TooManyLines rest = inl Refusal.TablesTooManyLines
-withinLimits Limit.Kept rest = rest
-
-unfoldable pub readTables : List ℕ → Refusal ⊎ List Row
-readTables s = withinLimits (limitOf s) (sorted (readRows 0 (lines s)))
+unfoldable pub readTables : List ℕ → Checked (List Row)
+readTables s =
+    refuseLimit (limitOf s) Refusal.TablesTooLong Refusal.TablesUnended Refusal.TablesTooManyLines ▹ λ _.
+    readEach readRowLine 0 (lines s) ▹ λ rs.
+    refuseAt (firstTwice rs) Refusal.KeyTwice ▹ λ _.
+    inr (inOrder rs)
 
 -- ---- what two texts hold
 -- the row stands on line k
@@ -102,15 +100,3 @@ TwiceOn s k = (j : ℕ) × (x : Row) × (y : Row) × (j < k) × OnLine s j x × 
 -- line k is the lowest such line
 abbrev pub LowestOn : List ℕ → ℕ → Type 0
 LowestOn s k = TwiceOn s k × ((j : ℕ) → j < k → TwiceOn s j → ⊥)
-
--- ---- what the answers say
-abbrev pub asRow : RowRead → Refusal ⊎ Row
-asRow (RowRead.Read r) = inr r
-asRow (RowRead.Refused e) = inl e
-
-abbrev pub asOutcome : Outcome → List Row → Refusal ⊎ List Row
-asOutcome Outcome.Accepted rs = inr rs
-asOutcome (Outcome.Refused e) rs = inl e
-
-abbrev pub asTables : TablesRead → Refusal ⊎ List Row
-asTables r = asOutcome (r .outcome) (rowsOf (r .rows))

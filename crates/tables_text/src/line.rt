@@ -6,7 +6,8 @@ use text_fields::entry_at;
 use text_numbers::Number;
 use text_numbers::number_at;
 ghost use mathlib.Core.Path.{_≡_};
-ghost use Rattle.tables_text.specs.TableText.{readLine, asRow};
+ghost use Rattle.tables_text.specs.TableText.{readRowLine};
+ghost use Rattle.tables_text.specs.Inner.{asRow};
 
 // A line's row, or why the line is refused.
 pub enum RowRead {
@@ -16,7 +17,7 @@ pub enum RowRead {
 
 // The row of a whole line, which has that number.
 pub fn row_line(s: &[u8], line: usize) -> RowRead
-    ensures { λ r. ⌜ asRow r ≡ readLine line (now (s .entry)) ⌝ }
+    ensures { λ r. ⌜ asRow r ≡ readRowLine line (now (s .entry)) ⌝ }
 {
     let Number::Read {
         value: switch,

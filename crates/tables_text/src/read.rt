@@ -2,6 +2,7 @@
 use crate::line::RowRead;
 use crate::line::row_line;
 use crate::store::no_rows;
+use refusals::Outcome;
 use refusals::Refusal;
 use rows::Rows;
 use text_lines::Limit;
@@ -11,14 +12,9 @@ ghost use Prim.Native.Nat.{_≤_};
 ghost use lib.ListN.{length};
 ghost use Rattle.text_lines.specs.Lines.{lines};
 ghost use Rattle.rows.specs.Rows.{rowsOf};
-ghost use Rattle.rows_sort.specs.Sorting.{sortRows};
-ghost use Rattle.tables_text.specs.TableText.{readRows, inOrder, sorted, readTables, asTables};
-
-// Whether the text is accepted.
-pub enum Outcome {
-    Accepted,
-    Refused(Refusal),
-}
+ghost use Rattle.refusals.specs.Checks.{_▹_};
+ghost use Rattle.tables_text.specs.TableText.{readTables};
+ghost use Rattle.tables_text.specs.Inner.{readRows, sortedRows, asTables};
 
 // The rows count only where the text is accepted.
 pub struct TablesRead {
@@ -29,7 +25,7 @@ pub struct TablesRead {
 // The rows of the lines, in the order of the lines.
 fn read_rows(text: &[u8]) -> TablesRead
     requires { ⌜ length (lines (now text)) ≤ 256 ⌝ }
-    ensures { λ r. ⌜ (asTables r ≡ readRows 0 (lines (now (text .entry)))) × (r .rows .len ≤ 256) ⌝ }
+    ensures { λ r. ⌜ (asTables r ≡ readRows (now (text .entry))) × (r .rows .len ≤ 256) ⌝ }
 {
     let mut rows = no_rows();
     let mut at: usize = 0;
@@ -72,7 +68,7 @@ fn refused(e: Refusal) -> TablesRead
 // The rows of the lines, in order.
 fn sort_rows(lines: Rows) -> TablesRead
     requires { ⌜ lines .len ≤ 256 ⌝ }
-    ensures { λ r. ⌜ (asTables r ≡ inOrder (sortRows (rowsOf lines))) × (r .rows .len ≤ 256) ⌝ }
+    ensures { λ r. ⌜ (asTables r ≡ sortedRows (rowsOf lines)) × (r .rows .len ≤ 256) ⌝ }
 {
     let sorted = rows_sort::sort(lines);
     let rows = sorted.rows;
@@ -92,7 +88,7 @@ fn sort_rows(lines: Rows) -> TablesRead
 // The rows of the lines, or the first refusal of a line; then in order.
 fn read_sorted(text: &[u8]) -> TablesRead
     requires { ⌜ length (lines (now text)) ≤ 256 ⌝ }
-    ensures { λ r. ⌜ (asTables r ≡ sorted (readRows 0 (lines (now (text .entry))))) × (r .rows .len ≤ 256) ⌝ }
+    ensures { λ r. ⌜ (asTables r ≡ (readRows (now (text .entry)) ▹ sortedRows)) × (r .rows .len ≤ 256) ⌝ }
 {
     let read = read_rows(text);
     let outcome = read.outcome;

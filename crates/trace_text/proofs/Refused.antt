@@ -19,7 +19,7 @@ use Rattle.text_reader.proofs.Each.{each-length, each-only, each-refused}
 use Rattle.refusals.specs.Refusals.{numberOf, placeOf, sourceOf}
 use Rattle.refusals.specs.Checks.{_▹_, refuseLimit, refuseAt}
 use Rattle.refusals.proofs.Checks.{not-refused, same-refusal, refused-by, nothing-found, found-at, limit-kept}
-use Rattle.trace_line.specs.EventLine.{clearEvent, readLine, onLine, readEvent}
+use Rattle.trace_line.specs.EventLine.{clearEvent, readNumberedEvent, onLine, readEvent}
 use Rattle.trace_text.specs.Types.{Refusal, Limit, Source, Event}
 use Rattle.trace_text.specs.TraceText.{twice, takenEarly, readTrace}
 use Rattle.trace_text.specs.Inner.{checkTokens}
@@ -37,7 +37,7 @@ limit-refuses Limit.Kept r u = not-refused u
 -- ---- a line: 4, 5, 6 are of the line itself
 line-refuses : (k : ℕ) (l : List ℕ) (r : Refusal) → readEvent k l ≡ inl r → (numberOf r ≤ 6) × (placeOf r ≡ k)
 unfolding readEvent
-line-refuses k l r h = go (readLine l) h
+line-refuses k l r h = go (readNumberedEvent l) h
   where
     go : (x : Option (ℕ × Event)) → onLine k x ≡ inl r → (numberOf r ≤ 6) × (placeOf r ≡ k)
     go none u = rw (← same-refusal u) (omega arith, refl)

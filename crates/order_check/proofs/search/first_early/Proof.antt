@@ -5,7 +5,8 @@ use lib.ListN.{drop}
 use borrow.Author.Needs.{needs}
 use Rattle.happens_before.specs.Rows.{bit}
 use Rattle.order_check.specs.Types.{Early}
-use Rattle.order_check.specs.Schedule.{anyBefore, earlyFrom, asPosition}
+use Rattle.order_check.specs.Schedule.{anyBefore, earlyFrom}
+use Rattle.order_check.specs.Inner.{asPosition}
 use Rattle.order_check.proofs.SearchLaws as walk
 use Rattle.order_check.proofs.search.first_early.Statement.{statement}
 use Rattle.order_check.proofs.search.first_early.Tie as tie

@@ -1,30 +1,52 @@
-use mathlib.Core.Path.{sym, ap, _∙_}
+-- The texts are refused, or their events and rows, which are in order, are replayed.
+use mathlib.Core.Path.{_≡_}
+use mathlib.Core.List.{List}
+use mathlib.Core.Logic.{inr}
 use denote.Ref.{now}
-use Rattle.trace_events.specs.Events.{eventsOf}
-use Rattle.refusals.specs.Checks.{outcomeOf}
-use Rattle.replay_call.proofs.Leaving.{text-refused, text-accepted, called}
 use borrow.Author.Needs.{needs}
+use Rattle.trace_events.specs.Events.{eventsOf}
+use Rattle.rows.specs.Rows.{rowsOf}
+use Rattle.inputs.specs.Inputs.{readBoth}
+use Rattle.replay_call.specs.Types.{Event, Row}
+use Rattle.replay_call.proofs.Leaving.{refused-by, accepted-by, texts-refused, texts-accepted, start-sorted, called}
 use Rattle.replay_call.proofs.replaying.replay.Statement.{statement}
 use Rattle.replay_call.proofs.replaying.replay.Tie as tie
 
+-- what was read, and the call's start
+abbrev readAs : tie.After-read-both → List Event × List Row
+readAs p = (eventsOf (p .read-both .result .trace), rowsOf (p .read-both .result .rows))
+
+abbrev start : tie.After-read-both → tie.Start
+start p = p .before .before .before .before .before .before
+
+accepted : (c : tie.After-enum-told) → let p = c .before .before in inr (readAs p) ≡ readBoth (now (start p .args .trace)) (now (start p .args .tables))
+accepted c = let p = c .before .before in accepted-by (readAs p) (c .enum-told .given .1) (p .read-both .ensures .0)
+
+replay-order-requires : tie.Need-replay-order-requires
+replay-order-requires c κs =
+    let at-arm = c .before .before .before .before in
+    let at-read = at-arm .before .before in
+    (at-read .read-both .ensures .1, at-read .read-both .ensures .2, start-sorted _ _ _ _ (accepted at-arm))
+
 returns : tie.Need-returns
 returns c =
-    let a = c .before .before .before .before .before .before .before .before .before .args in
-    let read = c .before .before .before .read-trace in
+    let at-read = c .before .before .before in
+    let a = start at-read .args in
     called (now (a .trace)) (now (a .tables)) (now (a .order)) (now (a .tables-out)) (now (a .answers-out))
-    (text-refused _ (sym (ap (λ o. outcomeOf o (eventsOf (read .result .trace))) (c .before .outcome .given .1)) ∙ read .ensures .0))
+    (texts-refused _ _ _ _ _ (refused-by (readAs at-read) (c .before .outcome .given .1) (at-read .read-both .ensures .0)))
 
 returns-2 : tie.Need-returns-2
 returns-2 c =
-    let d = c .before .before .before .before .before .before .before .before in
-    let a = d .before .before .before .before .before .before .before .before .args in
-    let read = d .before .before .read-trace in
+    let at-replay = c .before .before .before .before in
+    let at-arm = at-replay .before .before .before .before .before in
+    let a = start (at-arm .before .before) .args in
     called (now (a .trace)) (now (a .tables)) (now (a .order)) (now (a .tables-out)) (now (a .answers-out))
-    (text-accepted _ (sym (ap (λ o. outcomeOf o (eventsOf (read .result .trace))) (d .enum-told .given .1)) ∙ read .ensures .0) (c .before .before .before .before .check-tables .ensures))
+    (texts-accepted _ _ _ _ _ _ _ (accepted at-arm) (at-replay .replay-order .ensures))
 
 pub replay-spec : {M : Type 1} → statement M
 replay-spec =
     tie.close
-    (tie.spec (λ c κs. search needs) (λ c. search needs) (λ c. search needs) (λ c κs. search needs)
+    (tie.spec (λ c κs. search needs) (λ c. search needs) (λ c. search needs)
+    replay-order-requires
     returns (λ c. search needs) (λ c. search needs)
     returns-2)

@@ -15,16 +15,16 @@ size s = let n : length (s .args .t .events) ≡ 256 = search (needs, length-map
 
 returns : tie.Need-returns
 returns c =
-    let d = c .before .before .before .before in
-    let s = d .before .before .before .before in
-    absurd (not-over (eventsOf (s .args .t)) (now (s .args .order)) (s .args .start) (d .run .result) (d .run .ensures) (s .pre .1) (s .pre .2) (c .if1 .taken))
+    let at-run = c .before .before .before .before in
+    let s = at-run .before .before .before .before in
+    absurd (not-over (eventsOf (s .args .t)) (now (s .args .order)) (s .args .start) (at-run .run .result) (at-run .run .ensures) (s .pre .1) (s .pre .3) (c .if1 .taken))
 
 returns-2 : tie.Need-returns-2
 returns-2 c =
-    let w = c .before .before .before .before in
-    let d = w .before .before .before .before .before .before .before in
-    let s = d .before .before .before .before in
-    ran-through (eventsOf (s .args .t)) (now (s .args .order)) (s .args .start) (d .run .result) (d .run .ensures) (s .pre .1) (s .pre .2) (s .args .t .len) _ _ (size s) (w .write-both .ensures)
+    let at-texts = c .before .before .before .before in
+    let at-run = at-texts .before .before .before .before .before .before .before in
+    let s = at-run .before .before .before .before in
+    ran-through (eventsOf (s .args .t)) (now (s .args .order)) (s .args .start) (at-run .run .result) (at-run .run .ensures) (s .pre .1) (s .pre .3) (s .args .t .len) _ _ (size s) (at-texts .write-both .ensures)
 
 pub run-order-spec : {M : Type 1} → statement M
 run-order-spec =

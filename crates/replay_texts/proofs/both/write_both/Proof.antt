@@ -11,9 +11,11 @@ returns-2 c = answers-short _ _ _ _ _ (c .before .before .before .normal-length 
 
 returns-3 : tie.Need-returns-3
 returns-3 c =
-    let d = c .before .before .before .before .before .before .before .before in
-    both-written _ _ _ _ _ (d .before .before .before .normal-length .ensures) (d .before .before .if1 .left) (d .before .answers-length .ensures) (d .if2 .left)
-    (c .before .before .before .before .before .before .write-normal .ensures) (c .before .before .write-answers .ensures)
+    let at-answers = c .before .before in
+    let at-tables = at-answers .before .before .before .before in
+    let at-room = at-tables .before .before in
+    both-written _ _ _ _ _ (at-room .before .before .before .normal-length .ensures) (at-room .before .before .if1 .left) (at-room .before .answers-length .ensures) (at-room .if2 .left)
+    (at-tables .write-normal .ensures) (at-answers .write-answers .ensures)
 
 pub write-both-spec : {M : Type 1} → statement M
 write-both-spec =

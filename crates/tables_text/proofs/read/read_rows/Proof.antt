@@ -12,13 +12,14 @@ use Rattle.text_lines.specs.Lines.{lines}
 use Rattle.text_reader.proofs.Reading.{Lined, lined, lines-left, gets-on}
 use Rattle.text_numbers.proofs.Readers.{seen}
 use Rattle.basics.proofs.Arrays.{length-mapped}
-use Rattle.tables_text.specs.TableText.{readLine, asRow}
+use Rattle.tables_text.specs.TableText.{readRowLine}
+use Rattle.tables_text.specs.Inner.{asRow}
 use Rattle.text_reader.proofs.Each.{Rest, rest-start, rest-end, rest-refused, rest-read}
 use Rattle.tables_text.proofs.read.read_rows.Statement.{statement}
 use Rattle.tables_text.proofs.read.read_rows.Tie as tie
 
 abbrev Inv-loop : tie.InvT-loop
-Inv-loop text rows₀ at₀ rows at = (rows .len + length (lines (drop at text)) ≤ 256) × Rest readLine text (take (rows .len) (rows .rows)) (rows .len) at × (length (rows .rows) ≡ 512)
+Inv-loop text rows₀ at₀ rows at = (rows .len + length (lines (drop at text)) ≤ 256) × Rest readRowLine text (take (rows .len) (rows .rows)) (rows .len) at × (length (rows .rows) ≡ 512)
 
 abbrev μ-loop : tie.MeasureT-loop
 μ-loop text rows₀ at₀ rows at = length text - at
@@ -36,13 +37,13 @@ returns c =
     (rest-refused _ _ _ _ _ (a .before .before .before .loop .inv .1) _ _ (here a) _ (seen asRow (c .before .before .before .row-line .ensures) (c .before .read .given .1)), omega arith)
 
 mul-row : tie.Need-mul-row Inv-loop μ-loop
-mul-row c = omega (arith, c .before .before .before .before .before .before .before .loop .inv .0)
+mul-row c = let at-loop = c .before .before .before .before .before .before .before in omega (arith, at-loop .loop .inv .0)
 
 element-set-from-row : tie.Need-element-set-from-row Inv-loop μ-loop
-element-set-from-row c = omega (arith, c .before .before .before .before .before .before .before .loop .inv .0)
+element-set-from-row c = let at-loop = c .before .before .before .before .before .before .before in omega (arith, at-loop .loop .inv .0)
 
 add-rows : tie.Need-add-rows Inv-loop μ-loop
-add-rows c = omega (arith, c .before .before .before .before .before .before .before .loop .inv .0)
+add-rows c = let at-loop = c .before .before .before .before .before .before .before in omega (arith, at-loop .loop .inv .0)
 
 loop-less : tie.Need-loop-less Inv-loop μ-loop
 loop-less c =

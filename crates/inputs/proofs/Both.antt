@@ -1,0 +1,48 @@
+-- Two texts read one after the other: where both are accepted, and what follows. Assumes nothing.
+use mathlib.Core.List.{List}
+use mathlib.Core.Logic.{inl, inr}
+use mathlib.Core.Path.{_≡_, refl, ap}
+use Prim.Native.Nat.{ℕ}
+use Rattle.refusals.specs.Checks.{Checked, _▹_, outcomeOf}
+use Rattle.text_reader.proofs.Each.{refuses}
+use Rattle.trace_text.specs.TraceText.{readTrace, asOutcome}
+use Rattle.tables_text.specs.TableText.{readTables}
+use Rattle.inputs.specs.Types.{Event, Row, Outcome, TraceOutcome}
+use Rattle.inputs.specs.Inputs.{readBoth}
+use Rattle.inputs.specs.Inner.{firstRefused}
+
+abbrev paired : List Event → List Row → List Event × List Row
+paired es rs = (es, rs)
+
+-- the outcome of both is that of the first refusal
+outcomes : (a : TraceOutcome) (b : Outcome) (es : List Event) (rs : List Row)
+    → outcomeOf (firstRefused a b) (paired es rs) ≡ (asOutcome a es ▹ λ x. outcomeOf b rs ▹ λ y. inr (paired x y))
+outcomes (TraceOutcome.Refused r) b es rs = refl
+outcomes TraceOutcome.Accepted Outcome.Accepted es rs = refl
+outcomes TraceOutcome.Accepted (Outcome.Refused r) es rs = refl
+
+pub read-both : (s t : List ℕ) (a : TraceOutcome) (b : Outcome) {o : Outcome} (es : List Event) (rs : List Row) → o ≡ firstRefused a b → asOutcome a es ≡ readTrace s → outcomeOf b rs ≡ readTables t
+    → outcomeOf o (paired es rs) ≡ readBoth s t
+unfolding readBoth
+read-both s t a b es rs e p q = rw (← p, ← q, e) (outcomes a b es rs)
+
+-- both texts are accepted
+pub both-accepted : (s t : List ℕ) (es : List Event) (rs : List Row) → readBoth s t ≡ inr (es, rs) → (readTrace s ≡ inr es) × (readTables t ≡ inr rs)
+unfolding readBoth
+both-accepted s t es rs e = go (readTrace s) (readTables t) e
+  where
+    go : (x : Checked (List Event)) (y : Checked (List Row)) → (x ▹ λ a. y ▹ λ b. inr (paired a b)) ≡ inr (es, rs) → (x ≡ inr es) × (y ≡ inr rs)
+    go (inl r) y p = refuses p
+    go (inr a) (inl r) p = refuses p
+    go (inr a) (inr b) p = let q : paired a b ≡ (es, rs) = cc in (ap (λ z. inr (z .0)) q, ap (λ z. inr (z .1)) q)
+
+-- what follows both follows the one and then the other
+pub both-then : {A : Type 0} (s t : List ℕ) (next : List Event → List Row → Checked A)
+    → (readBoth s t ▹ λ (es, rs). next es rs) ≡ (readTrace s ▹ λ es. readTables t ▹ λ rs. next es rs)
+unfolding readBoth
+both-then {A} s t next = go (readTrace s) (readTables t)
+  where
+    go : (x : Checked (List Event)) (y : Checked (List Row)) → ((x ▹ λ a. y ▹ λ b. inr (paired a b)) ▹ λ (es, rs). next es rs) ≡ (x ▹ λ es. y ▹ λ rs. next es rs)
+    go (inl r) y = refl
+    go (inr a) (inl r) = refl
+    go (inr a) (inr b) = refl

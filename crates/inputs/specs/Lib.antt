@@ -1,0 +1,3 @@
+pub mod Types
+pub mod Inputs
+pub mod Inner

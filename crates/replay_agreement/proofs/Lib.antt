@@ -1,0 +1,4 @@
+pub mod RecordedOrder
+pub mod SameTexts
+pub mod Buffers
+pub mod Demand3

@@ -1,0 +1,24 @@
+-- Document 01, "What an order of events does": the orders that demand 3 speaks of.
+use mathlib.Core.Path.{_≡_}
+use mathlib.Core.Bool.{true}
+use mathlib.Core.List.{List, List·Memᴰ}
+use Prim.Native.Nat.{ℕ}
+use lib.ListN.{length}
+use Rattle.order_meaning.specs.Orders.{from, stands, IsOrderOf}
+use Rattle.list_pairs.specs.List.{Pair, listOf}
+use Rattle.order_check.specs.Schedule.{KeepsOrder}
+use Rattle.replay_agreement.specs.Types.{Event}
+
+-- the recorded order of a trace's events: 0, 1, 2 and so on
+abbrev pub recorded : List Event → List ℕ
+recorded es = from 0 (length es)
+
+-- it has every pair of the list in recorded order: the lower event stands first
+abbrev pub HasListed : List Event → List ℕ → Type 0
+HasListed es o = (p : Pair) → List·Memᴰ p (listOf es) → stands (p .lower) (p .higher) o ≡ true
+
+-- an order of the events, each once, that keeps happens-before and has every listed pair in recorded order
+pub record Allowed (es : List Event) (o : List ℕ) : Type 0 where
+  pub order : IsOrderOf (length es) o
+  pub keeps : KeepsOrder es o
+  pub listed : HasListed es o

@@ -1,0 +1,3 @@
+pub mod Types
+pub mod Allowed
+pub mod Buffers

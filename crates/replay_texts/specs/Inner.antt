@@ -1,0 +1,21 @@
+-- What the functions that write both texts leave.
+use mathlib.Core.Path.{_≡_}
+use mathlib.Core.List.{List}
+use mathlib.Core.Logic.{inr}
+use Prim.Native.Nat.{ℕ}
+use Rattle.refusals.specs.Checks.{Checked, _▹_, refuseShort, written}
+use Rattle.replay_texts.specs.Types.{Refusal, ReplayAnswer}
+use Rattle.replay_texts.specs.Writing.{Replayed, replayAnswer, tablesOut, answersOut}
+
+-- 32; 33; then both texts
+abbrev pub fittingBoth : Replayed → ℕ → ℕ → Checked Replayed
+fittingBoth x room room' =
+    refuseShort room (x .tables) Refusal.TablesShort ▹ λ _.
+    refuseShort room' (x .answers) Refusal.AnswersShort ▹ λ _.
+    inr x
+
+-- an answer and two buffers, before and after, are as a replay leaves them
+pub record Leaves (y : Checked Replayed) (r : ReplayAnswer) (old new old' new' : List ℕ) : Type 0 where
+  pub answer : r ≡ replayAnswer y
+  pub tables : new ≡ written (tablesOut y) old
+  pub answers : new' ≡ written (answersOut y) old'

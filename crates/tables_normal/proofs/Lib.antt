@@ -1,0 +1,3 @@
+pub mod Normalising
+pub mod Writing
+pub mod Theorems

@@ -85,11 +85,3 @@ passes (Filter.Same k) = sameKey k
 passes (Filter.Within m) = inside m
 passes (Filter.Clash k) = clash k
 passes (Filter.Fits p) = admits p
-
--- the first of n rows that may pass: past the last where none does
-abbrev pub firstFor : Filter → ℕ → ℕ
-firstFor Filter.Nothing n = n
-firstFor (Filter.Same k) n = 0
-firstFor (Filter.Within m) n = 0
-firstFor (Filter.Clash k) n = 0
-firstFor (Filter.Fits p) n = 0

@@ -3,7 +3,8 @@ use flow::Key;
 use flow::Match;
 use flow::Packet;
 ghost use mathlib.Core.Path.{_≡_};
-ghost use Rattle.rows.specs.Rows.{passes, firstFor};
+ghost use Rattle.rows.specs.Inner.{firstFor};
+ghost use Rattle.rows.specs.Rows.{passes};
 
 pub enum Filter {
     // No key passes.

@@ -16,7 +16,7 @@ use Rattle.rows.specs.Rows.{rowOrder, SortedRows, insertRow}
 use Rattle.rows.proofs.RowOrder.{row-turn, row-chain, row-greater}
 use Rattle.rows.proofs.RowLaws.{before-at}
 use Rattle.rows_search.specs.declared.searching.Search.{Search}
-use Rattle.rows_search.specs.Searching.{found, Placed, narrowedBy}
+use Rattle.rows_search.specs.Inner.{found, Placed, narrowedBy}
 
 -- the row goes past the rows before j
 abbrev pub Past : Row → List Row → ℕ → Type 0

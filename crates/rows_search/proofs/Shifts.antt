@@ -11,7 +11,7 @@ use lib.Seq.{length-take-le, take-at, take-append-le, drop-append-le, take-set-l
 use Rattle.rows.specs.declared.row.Row.{Row}
 use Rattle.rows.specs.Rows.{insertRow}
 use Rattle.rows_search.specs.declared.searching.Room.{Room}
-use Rattle.rows_search.specs.Searching.{Placed, roomFor}
+use Rattle.rows_search.specs.Inner.{Placed, roomFor}
 
 -- the rows but that at j
 abbrev gap : List Row → ℕ → List Row

@@ -4,7 +4,7 @@ use rows::Row;
 ghost use mathlib.Core.Path.{_≡_};
 ghost use Prim.Native.Nat.{_+_, _<_, _≤_};
 ghost use Rattle.rows.specs.Rows.{rowOrder};
-ghost use Rattle.rows_search.specs.Searching.{narrowedBy, roomFor};
+ghost use Rattle.rows_search.specs.Inner.{narrowedBy, roomFor};
 
 // The rows before `low` are less than the row, and it goes to `at` unless its place is found between them; `same` where the row at
 // `at` has its switch and key.

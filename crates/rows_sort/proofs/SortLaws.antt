@@ -17,7 +17,7 @@ use Rattle.rows.specs.Types.{Ordering}
 use Rattle.rows.specs.declared.row.Row.{Row}
 use Rattle.rows.specs.Rows.{rowOrder, sameSlot, RowBefore, SortedRows, insertRowBy, insertRow, anyRow}
 use Rattle.rows_sort.specs.Sorting.{standsIn, standsEarlier, sortFrom, sortRows}
-use Rattle.rows_search.specs.Searching.{found, foundBy}
+use Rattle.rows_search.specs.Inner.{found, foundBy}
 use Rattle.rows.proofs.RowOrder.{slotOf, row-same, like-slot-right, same-slot-iff}
 use Rattle.basics.proofs.Arrays.{next, ended}
 use Rattle.rows.proofs.RowLaws.{before-chain, sorted-insert, same-rows}

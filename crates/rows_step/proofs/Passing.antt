@@ -10,7 +10,8 @@ use native.Mathlib.Omega.{arith}
 use lib.ListN.{length, take, drop, getD, set, length-set}
 use lib.Seq.{take-set-le, getD-set-other}
 use Rattle.basics.proofs.Arrays.{next, ended, wrote, skipped, finished}
-use Rattle.rows.specs.Rows.{SortedRows, insertRow, anyRow, onSwitch, passes, firstFor}
+use Rattle.rows.specs.Rows.{SortedRows, insertRow, anyRow, onSwitch, passes}
+use Rattle.rows.specs.Inner.{firstFor}
 use Rattle.rows_step.specs.Types.{Operation, Answer, Row, Filter, Put, Work}
 use Rattle.rows_step.specs.Stepping.{stepRows, replyRows}
 use Rattle.rows_step.specs.Inner.{changed, isDropped, treated, counted, seen, seenRows, withPut, chosen, WorkFor}

@@ -3,9 +3,9 @@
 use Prim.Native.Nat.{_-_, _<_}
 use native.Mathlib.Omega.{arith}
 use mathlib.Core.Path.{_≡_, _∙_, subst}
+use mathlib.Core.List.{List}
 use lib.ListN.{length, getD, take, length-set}
 use borrow.Author.Needs.{needs}
-use denote.Ref.{now}
 use Rattle.trace_events.specs.Events.{eventsOf}
 use Rattle.basics.proofs.Arrays.{length-mapped}
 use Rattle.rows_step.specs.Inner.{WorkFor}
@@ -13,7 +13,7 @@ use Rattle.rows_step.proofs.Passing.{Passing, Passed, pass-start, pass-turn, pa
 use Rattle.rows_search.proofs.Searches.{Searched, search-start, search-less, search-turn, search-end}
 use Rattle.rows_search.proofs.Shifts.{Shifting, bounds, shift-start, shift-turn, shift-end}
 use Rattle.order_rows.specs.Runs.{operationAt}
-use Rattle.order_run.specs.Types.{Operation}
+use Rattle.order_run.specs.Types.{Operation, Row}
 use Rattle.order_run.proofs.RunLaws.{operation-here, Runs, run-start, run-turn, rows-done, answers-done}
 use Rattle.order_run.proofs.running.run.Statement.{statement}
 use Rattle.order_run.proofs.running.run.Tie as tie
@@ -76,9 +76,16 @@ does a = operationAt (eventsOf (entered (turn a) .args .t1)) (getD (entered (tur
 work-for : (a : tie.After-work-of Inv-loop2 μ-loop2 Inv-loop3 μ-loop3 Inv-loop4 μ-loop4 Inv-loop μ-loop) → WorkFor (does a) (a .work-of .result)
 work-for a = subst (λ o. WorkFor o (a .work-of .result)) (a .before .operation-of .ensures ∙ operation-here (entered (turn a) .args .t1) (getD (entered (turn a) .args .order .now) (turn a .before .loop .p) 0)) (a .work-of .ensures)
 
+-- the rows that the event meets
+abbrev met-rows : (a : tie.After-work-of Inv-loop2 μ-loop2 Inv-loop3 μ-loop3 Inv-loop4 μ-loop4 Inv-loop μ-loop) → List Row
+met-rows a = take (turn a .before .loop .len) (turn a .before .loop .rows)
+
 -- the pass is done
-pass-done : (a : tie.After-unless Inv-loop2 μ-loop2 Inv-loop3 μ-loop3 Inv-loop4 μ-loop4 Inv-loop μ-loop) → Passed (does (worked (passed a))) (take (turn (worked (passed a)) .before .loop .len) (turn (worked (passed a)) .before .loop .rows)) (turn (worked (passed a)) .before .loop .len) (passed a .loop2 .rows) (passed a .loop2 .k) (passed a .loop2 .answer) (a .unless .result)
-pass-done a = pass-end _ _ _ _ _ _ _ _ (passed a .loop2 .inv) (a .before .loop2-test .left) _ (work-for (worked (passed a))) (turn (worked (passed a)) .before .loop .inv .1 .sorted) _ (a .unless .ensures)
+pass-done : (a : tie.After-unless Inv-loop2 μ-loop2 Inv-loop3 μ-loop3 Inv-loop4 μ-loop4 Inv-loop μ-loop)
+    → Passed (does (worked (passed a))) (met-rows (worked (passed a))) (turn (worked (passed a)) .before .loop .len) (passed a .loop2 .rows) (passed a .loop2 .k) (passed a .loop2 .answer) (a .unless .result)
+pass-done a =
+    let q = worked (passed a) in
+    pass-end _ _ _ _ _ _ _ _ (passed a .loop2 .inv) (a .before .loop2-test .left) _ (work-for q) (turn q .before .loop .inv .1 .sorted) _ (a .unless .ensures)
 
 -- ---- the turn
 loop-holds : tie.Need-loop-holds Inv-loop2 μ-loop2 Inv-loop3 μ-loop3 Inv-loop4 μ-loop4 Inv-loop μ-loop

@@ -1,6 +1,6 @@
 use mathlib.Core.Path.{refl}
 use borrow.Author.Needs.{needs}
-use Rattle.rows_search.specs.Searching.{narrowedBy}
+use Rattle.rows_search.specs.Inner.{narrowedBy}
 use Rattle.rows_search.proofs.searching.Search.narrowed.Statement.{statement}
 use Rattle.rows_search.proofs.searching.Search.narrowed.Tie as tie
 

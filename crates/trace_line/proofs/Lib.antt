@@ -1,4 +1,3 @@
 pub mod LineLaws
-pub mod OperationFormat
 pub mod LineFormat
 pub mod EventRanges

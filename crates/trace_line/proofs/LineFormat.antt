@@ -14,12 +14,13 @@ use Rattle.text_numbers.proofs.Readers.{nothing, on-cond}
 use Rattle.text_numbers.proofs.Numbers.{number-format}
 use Rattle.text_numbers.proofs.Format.{space-ends, keyed-format, along, tagged, both-format, whole}
 use Rattle.trace_words.specs.Words.{wordOf}
+use Rattle.trace_operation.specs.Operations.{printOperation}
 use Rattle.trace_words.proofs.WordFormat.{word-format}
 use Rattle.trace_head.proofs.HeadFormat.{head-format, head-follows}
 use Rattle.trace_line.specs.Types.{Event, Word}
-use Rattle.trace_line.specs.EventLine.{printOperation, printBehind, printEvent, printLine, readParts, readBehind, readItems, readNumbered, atEnd, readNumberedEvent}
+use Rattle.trace_line.specs.EventLine.{printBehind, printEvent, printLine, readParts, readBehind, readItems, readNumbered, atEnd, readNumberedEvent}
 use Rattle.trace_line.specs.Written.{EventWritten}
-use Rattle.trace_line.proofs.OperationFormat.{operation-format, operation-follows}
+use Rattle.trace_operation.proofs.OperationFormat.{operation-format, operation-follows}
 
 -- what stands behind a word
 behind-format : (w : Word) → Format (λ e. EventWritten e × (wordOf (e .operation) ≡ w)) printBehind (readBehind w)

@@ -1,8 +1,8 @@
 // What is refused of a line whose items are read.
-use crate::clear::clear_operation;
 use crate::line::EventRead;
 use refusals::Refusal;
 use trace_events::Event;
+use trace_operation::clear_operation;
 ghost use mathlib.Core.Path.{_≡_};
 ghost use mathlib.Core.Bool.{cond};
 ghost use mathlib.Core.Option.{none, some};

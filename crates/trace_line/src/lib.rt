@@ -1,8 +1,6 @@
 // A line of a trace as an event.
 mod checks; // malformed at its end, misnumbered, an address bit past its prefix
-pub mod clear; // no address bit past its prefix
 pub mod line; // the whole line
-pub mod operation; // the switch and the operation's own fields
 
 pub use line::EventRead;
 pub use line::event_line;

@@ -1,13 +1,13 @@
 // One line of a trace, taken apart or else refused by number.
 use crate::checks::checked;
-use crate::operation::OperationRead;
-use crate::operation::operation_at;
 use refusals::Refusal;
 use text_numbers::Number;
 use text_numbers::number_at;
 use trace_events::Event;
 use trace_head::HeadRead;
 use trace_head::head_at;
+use trace_operation::OperationRead;
+use trace_operation::operation_at;
 use trace_words::Word;
 use trace_words::WordRead;
 use trace_words::word_at;

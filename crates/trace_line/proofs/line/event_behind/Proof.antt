@@ -3,7 +3,7 @@ use borrow.Author.Needs.{needs}
 use Rattle.text_numbers.proofs.Readers.{seen, mapped-none, mapped-some, both-none, both-some}
 use Rattle.trace_head.specs.Inner.{asHead}
 use Rattle.trace_line.specs.EventLine.{readParts, atEnd, onLine}
-use Rattle.trace_line.specs.Inner.{asOperation}
+use Rattle.trace_operation.specs.Inner.{asOperation}
 use Rattle.trace_line.proofs.line.event_behind.Statement.{statement}
 use Rattle.trace_line.proofs.line.event_behind.Tie as tie
 

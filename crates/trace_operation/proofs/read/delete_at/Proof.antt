@@ -1,8 +1,8 @@
 use borrow.Author.Needs.{needs}
 use Rattle.text_numbers.proofs.Readers.{seen, mapped-none, mapped-some}
 use Rattle.text_fields.specs.Read.{asMatch}
-use Rattle.trace_line.proofs.operation.delete_at.Statement.{statement}
-use Rattle.trace_line.proofs.operation.delete_at.Tie as tie
+use Rattle.trace_operation.proofs.read.delete_at.Statement.{statement}
+use Rattle.trace_operation.proofs.read.delete_at.Tie as tie
 
 pub delete-at-spec : {M : Type 1} → statement M
 delete-at-spec =

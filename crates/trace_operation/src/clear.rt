@@ -6,7 +6,7 @@ use flow_table::Operation;
 use flow_table::carried_by;
 ghost use mathlib.Core.Path.{_≡_};
 ghost use Rattle.text_fields.specs.Written.{clearKey, clearEntry};
-ghost use Rattle.trace_line.specs.EventLine.{clearCarried, clearOperation};
+ghost use Rattle.trace_operation.specs.Operations.{clearCarried, clearOperation};
 
 fn clear_key(k: Key) -> bool
     ensures { λ r. ⌜ r ≡ clearKey k ⌝ }

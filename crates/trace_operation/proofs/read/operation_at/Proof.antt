@@ -3,9 +3,9 @@ use borrow.Author.Needs.{needs}
 use Rattle.text_numbers.specs.Number.{asNumber}
 use Rattle.text_numbers.proofs.Readers.{seen}
 use Rattle.text_numbers.proofs.Format.{keyed-below}
-use Rattle.trace_line.proofs.LineLaws.{no-switch, bad-switch, on-switch}
-use Rattle.trace_line.proofs.operation.operation_at.Statement.{statement}
-use Rattle.trace_line.proofs.operation.operation_at.Tie as tie
+use Rattle.trace_operation.proofs.OperationLaws.{no-switch, bad-switch, on-switch}
+use Rattle.trace_operation.proofs.read.operation_at.Statement.{statement}
+use Rattle.trace_operation.proofs.read.operation_at.Tie as tie
 
 pub operation-at-spec : {M : Type 1} → statement M
 operation-at-spec =

@@ -3,9 +3,9 @@ use mathlib.Core.Path.{_∙_, ap}
 use borrow.Author.Needs.{needs}
 use Rattle.text_numbers.proofs.Readers.{seen, mapped-none, mapped-some}
 use Rattle.text_fields.specs.Read.{asEntry}
-use Rattle.trace_line.specs.Types.{Operation}
-use Rattle.trace_line.proofs.operation.write_at.Statement.{statement}
-use Rattle.trace_line.proofs.operation.write_at.Tie as tie
+use Rattle.trace_operation.specs.Types.{Operation}
+use Rattle.trace_operation.proofs.read.write_at.Statement.{statement}
+use Rattle.trace_operation.proofs.read.write_at.Tie as tie
 
 returns : tie.Need-returns
 returns c = mapped-none _ _ _ _ (seen asEntry (c .before .before .entry-at .ensures) (c .enum-told .given .1))

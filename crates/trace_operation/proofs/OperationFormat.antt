@@ -20,9 +20,8 @@ use Rattle.text_fields.proofs.MatchFormats.{match-follows, match-format, packet
 use Rattle.text_fields.proofs.EntryFormats.{key-follows, key-format, entry-follows, entry-format}
 use Rattle.trace_words.specs.Words.{tableWord, wordOf, writeOf}
 use Rattle.trace_words.proofs.WordLaws.{by-word, write-word, write-carries}
-use Rattle.trace_line.specs.Types.{Match, Packet, Key, Entry, TableOperation, Operation, Word, SwitchWord, Write}
-use Rattle.trace_line.specs.EventLine.{printSwitch, printOperation, readSwitch, readOn, readOperation}
-use Rattle.trace_line.specs.Written.{CarriedWritten, OperationWritten}
+use Rattle.trace_operation.specs.Types.{Match, Packet, Key, Entry, TableOperation, Operation, Word, SwitchWord, Write}
+use Rattle.trace_operation.specs.Operations.{printSwitch, printOperation, readSwitch, readOn, readOperation, CarriedWritten, OperationWritten}
 
 -- ---- each word on a switch: what stands behind the switch, its format, and the operation that it makes
 record Own (u : SwitchWord) : Type 1 where

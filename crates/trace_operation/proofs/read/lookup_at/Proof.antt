@@ -1,8 +1,8 @@
 use borrow.Author.Needs.{needs}
 use Rattle.text_numbers.proofs.Readers.{seen, mapped-none, mapped-some}
 use Rattle.text_fields.specs.Read.{asPacket}
-use Rattle.trace_line.proofs.operation.lookup_at.Statement.{statement}
-use Rattle.trace_line.proofs.operation.lookup_at.Tie as tie
+use Rattle.trace_operation.proofs.read.lookup_at.Statement.{statement}
+use Rattle.trace_operation.proofs.read.lookup_at.Tie as tie
 
 pub lookup-at-spec : {M : Type 1} → statement M
 lookup-at-spec =

@@ -1,4 +1,4 @@
-// The rest of a line behind its head, by the word of `do`: the switch and the operation's own fields.
+// The rest of a line behind its head, by the word of `do`.
 use flow_table::Operation;
 use flow_table::TableOperation;
 use text_fields::EntryRead;
@@ -19,8 +19,8 @@ ghost use mathlib.Core.Path.{_≡_};
 ghost use Rattle.text_numbers.specs.Reading.{mapped};
 ghost use Rattle.text_fields.specs.Read.{readPacket, readEntry, readKey, readMatch};
 ghost use Rattle.trace_words.specs.Words.{writeOf};
-ghost use Rattle.trace_line.specs.EventLine.{readOn, readOperation};
-ghost use Rattle.trace_line.specs.Inner.{asOperation};
+ghost use Rattle.trace_operation.specs.Operations.{readOn, readOperation};
+ghost use Rattle.trace_operation.specs.Inner.{asOperation};
 
 // Switches are 0 to 15.
 const LAST_SWITCH: u16 = 15;

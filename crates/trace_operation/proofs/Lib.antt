@@ -1,0 +1,3 @@
+pub mod OperationLaws
+pub mod OperationFormat
+pub mod OperationRanges

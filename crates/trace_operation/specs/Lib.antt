@@ -1,0 +1,3 @@
+pub mod Types
+pub mod Operations
+pub mod Inner

@@ -1,4 +1,4 @@
--- How large the counts may be where code adds to them or prints them.
+-- Inner: how large the counts may be where code adds to them or prints them.
 use Prim.Native.Nat.{_≤_}
 use Rattle.call_answers.specs.Types.{Counts}
 

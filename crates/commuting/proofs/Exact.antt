@@ -7,7 +7,8 @@ use Prim.Native.Nat.{ℕ, max}
 use native.Mathlib.Omega.{arith}
 use lib.Dec.{eqb}
 use borrow.Author.Tests.{eq-eqb, not-false}
-use Rattle.flow.specs.Matches.{fits, overlaps, meet}
+use Rattle.flow.specs.Matches.{fits, overlaps}
+use Rattle.flow.specs.Inner.{meet}
 use Rattle.flow.specs.Entries.{sameKey, sameAction}
 use Rattle.basics.proofs.Booleans.{split, and-intro, and-cases, or-left, or-right, and-true}
 use Rattle.flow.proofs.Field.{within-self, meet-left, meet-right, overlap-sym, within-overlap}
@@ -17,7 +18,8 @@ use Rattle.flow_table.specs.FlowTable.{Table, entry, get, insert, removeIf, ass
 use Rattle.flow_table.proofs.TableLaws.{get-insert, get-assign, any-assign, none-some}
 use Rattle.flow_table.proofs.Effects.{addc-yes, modn-yes, modn-no}
 use Rattle.commuting.specs.Types.{Match, Packet, Action, Key, Entry, Answer}
-use Rattle.commuting.specs.Commuting.{Agree, add-add, add-dels, add-deln, add-modn, addc-other, addc-modn, modn-dels, modn-modn, commutes, one, at, witness}
+use Rattle.commuting.specs.Commuting.{Agree, add-add, add-dels, add-deln, add-modn, addc-other, addc-modn, modn-dels, modn-modn, commutes, at}
+use Rattle.commuting.specs.Inner.{one, witness}
 use Rattle.commuting.proofs.Sound.{inside-self, clash-self, agree-sym, clashes}
 
 -- a false test that follows from an equation

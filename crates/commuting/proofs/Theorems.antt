@@ -7,13 +7,15 @@ use mathlib.Core.List.{[]}
 use Prim.Native.Nat.{ℕ, _≤_}
 use native.Mathlib.Omega.{arith}
 use lib.ListN.{length}
-use Rattle.flow.specs.Matches.{meet, MatchInRange}
+use Rattle.flow.specs.Matches.{MatchInRange}
+use Rattle.flow.specs.Inner.{meet}
 use Rattle.flow.specs.Entries.{sameAction, KeyInRange}
 use Rattle.basics.proofs.Booleans.{split, both-ways}
 use Rattle.flow.proofs.Matches.{match-field}
 use Rattle.flow_table.specs.FlowTable.{Table, Sorted, TableInRange, Effect, pkt, add, addc, modn, dels, deln, idle, effectOf, tableEffect, EffectInRange}
 use Rattle.commuting.specs.Types.{Match, Key, Entry, Operation, TableOperation}
-use Rattle.commuting.specs.Commuting.{Commute, commutes, one, at, witness, Told}
+use Rattle.commuting.specs.Commuting.{Commute, commutes, at, Told}
+use Rattle.commuting.specs.Inner.{one, witness}
 use Rattle.commuting.proofs.Sound.{commutes-sound, agree-sym}
 use Rattle.commuting.proofs.Exact.{commutes-exact}
 

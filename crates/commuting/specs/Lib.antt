@@ -1,3 +1,4 @@
 pub mod Types
 pub mod Commuting
 pub mod Marked
+pub mod Inner

@@ -6,7 +6,8 @@ use native.Mathlib.Omega.{arith}
 use lib.Dec.{eqb}
 use borrow.Author.Tests.{eqb-true, eqb-false, eq-eqb, ne-eqb}
 use Rattle.flow.specs.Types.{Exact}
-use Rattle.flow.specs.Matches.{exactFits, exactOverlaps, exactWithin, exactMeet, exactPoint, ExactInRange}
+use Rattle.flow.specs.Matches.{exactFits, exactOverlaps, exactWithin, ExactInRange}
+use Rattle.flow.specs.Inner.{exactMeet, exactPoint}
 use Rattle.basics.proofs.Booleans.{and-absorb}
 use Rattle.flow.proofs.Field.{IsField}
 

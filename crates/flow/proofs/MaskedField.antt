@@ -5,7 +5,8 @@ use Prim.Native.Nat.{ℕ, _^_, _<_}
 use lib.Dec.{eqb}
 use lib.Bits.{bitAnd, bitOr, bitXor, and-lt, or-lt, xor-lt}
 use borrow.Author.Tests.{eq-eqb, eqb-true}
-use Rattle.flow.specs.Matches.{Masked, maskedFits, maskedOverlaps, maskedWithin, maskedMeet, maskedClear}
+use Rattle.flow.specs.Matches.{Masked, maskedFits, maskedOverlaps, maskedWithin, maskedClear}
+use Rattle.flow.specs.Inner.{maskedMeet}
 use Rattle.basics.proofs.Booleans.{split, both-ways, and-intro, and-left, and-right}
 use Rattle.flow.proofs.Digits.{digit, digit-and, digit-or, digit-xor, known-by-digits, xorb}
 use Rattle.flow.proofs.Field.{IsField}

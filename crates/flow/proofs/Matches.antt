@@ -5,7 +5,8 @@ use mathlib.Core.Logic.{_↔_}
 use mathlib.Core.Bool.{true, _&&_, true≢false}
 use lib.Dec.{lit≤}
 use Rattle.flow.specs.Types.{Match, Packet}
-use Rattle.flow.specs.Matches.{fits, within, overlaps, meet, packetOf, MatchInRange, PacketInRange, Overlap, LiesWithin}
+use Rattle.flow.specs.Matches.{fits, within, overlaps, MatchInRange, PacketInRange, Overlap, LiesWithin}
+use Rattle.flow.specs.Inner.{meet, packetOf}
 use Rattle.basics.proofs.Booleans.{split}
 use Rattle.flow.proofs.Field.{IsField, beside, along, within-self, shared}
 use Rattle.flow.proofs.ExactField.{exact-field}

@@ -10,7 +10,8 @@ use lib.Pow.{pow-pos, pow-mono, pow-lt, pow-sub-lt, high-ones, high, shr-mod, sh
 use lib.Bits.{bitAnd, and-high, and-comm, and-zero-r}
 use borrow.Author.Tests.{eq-eqb, ne-eqb, eqb-true, leb-true, leb-false, ltb-true, ltb-false}
 use Rattle.flow.specs.Types.{Prefix}
-use Rattle.flow.specs.Matches.{maskedFits, maskedMeet, maskOf, maskedOf, sameLeading, prefixFits, prefixOverlaps, prefixWithin, prefixMeet, prefixClear, PrefixInRange}
+use Rattle.flow.specs.Matches.{maskedFits, maskOf, maskedOf, prefixFits, prefixOverlaps, prefixWithin, prefixClear, PrefixInRange}
+use Rattle.flow.specs.Inner.{maskedMeet, sameLeading, prefixMeet}
 use Rattle.basics.proofs.Booleans.{split, both-ways, and-intro, and-left, and-right, and-cases, and-absorb, and-absorb-right}
 use Rattle.flow.proofs.Field.{IsField, along}
 use Rattle.flow.proofs.MaskedField.{MaskedInRange, masked-field}

@@ -6,7 +6,8 @@ use native.Mathlib.Omega.{arith}
 use lib.Dec.{eqb, ltb}
 use borrow.Author.Tests.{eq-eqb, ne-eqb, ltb-true, ltb-false}
 use Rattle.flow.specs.Types.{Match, Key, Ordering}
-use Rattle.flow.specs.Entries.{rank, matchOrder, keyOrder, isEqual, sameKey, sameMatch}
+use Rattle.flow.specs.Entries.{rank, matchOrder, keyOrder, isEqual, sameKey}
+use Rattle.flow.specs.Inner.{sameMatch}
 use Rattle.flow.specs.Orders.{orderOf, thenBy}
 use Rattle.basics.proofs.Booleans.{split, and-assoc, and-true}
 

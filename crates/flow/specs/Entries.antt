@@ -1,11 +1,11 @@
 -- Document 01, "Flow table": keys, actions, entries, and the order of a table. That it is a strict total order of the keys is
 -- proved in proofs/Entries.antt.
-use mathlib.Core.Bool.{Bool, true, false, _&&_}
+use mathlib.Core.Bool.{Bool, true, false}
 use mathlib.Core.List.{List, [], _∷_}
 use Prim.Native.Nat.{ℕ, _+_, _<_}
 use lib.Dec.{eqb}
 use Rattle.flow.specs.Orders.{lexical, thenBy, orderOf}
-use Rattle.flow.specs.Types.{Exact, Prefix, Match, Action, Key, Entry, Ordering}
+use Rattle.flow.specs.Types.{Exact, Match, Action, Key, Entry, Ordering}
 use Rattle.flow.specs.Matches.{MatchInRange}
 
 -- `*` before numbers
@@ -39,22 +39,6 @@ isEqual Ordering.Greater = false
 -- the same key
 unfoldable pub sameKey : Key → Key → Bool
 sameKey j k = isEqual (keyOrder j k)
-
--- the same match, field by field: table order finds no difference (proofs/Entries.antt)
-abbrev pub sameExact : Exact → Exact → Bool
-sameExact a b = eqb (exactRank a) (exactRank b)
-
-abbrev pub samePrefix : Prefix → Prefix → Bool
-samePrefix p q = eqb (p .value) (q .value) && eqb (p .length) (q .length)
-
-unfoldable pub sameMatch : Match → Match → Bool
-sameMatch m n =
-    sameExact (m .port) (n .port)
-    && (samePrefix (m .src) (n .src)
-    && (samePrefix (m .dst) (n .dst)
-    && (sameExact (m .proto) (n .proto)
-    && (sameExact (m .sport) (n .sport)
-    && sameExact (m .dport) (n .dport)))))
 
 -- a number for each action; the same action
 abbrev pub actionCode : Action → ℕ

@@ -2,3 +2,4 @@ pub mod Types
 pub mod Matches
 pub mod Orders
 pub mod Entries
+pub mod Inner

@@ -1,10 +1,10 @@
 -- Document 01, "Matches": which packets fit a match, overlap, within. Each test is pinned by what it stands for: `Overlap`
 -- and `LiesWithin` below, with the theorems in proofs/Matches.antt.
 use mathlib.Core.Path.{_≡_}
-use mathlib.Core.Bool.{Bool, true, false, _&&_, cond}
+use mathlib.Core.Bool.{Bool, true, false, _&&_}
 use Prim.Native.Nat.{ℕ, _-_, _^_, _≤_, _<_}
-use lib.Dec.{eqb, leb}
-use lib.Bits.{bitAnd, bitOr}
+use lib.Dec.{eqb}
+use lib.Bits.{bitAnd}
 use Rattle.flow.specs.Types.{Exact, Prefix, Match, Packet}
 
 -- a field that is `*` or a number: does a value fit, do two overlap, does one lie within another
@@ -22,15 +22,6 @@ exactWithin a Exact.Any = true
 exactWithin Exact.Any (Exact.Is b) = false
 exactWithin (Exact.Is a) (Exact.Is b) = eqb a b
 
--- what two that overlap have in common, and a value that fits
-abbrev pub exactMeet : Exact → Exact → Exact
-exactMeet Exact.Any b = b
-exactMeet (Exact.Is a) b = Exact.Is a
-
-abbrev pub exactPoint : Exact → ℕ
-exactPoint Exact.Any = 0
-exactPoint (Exact.Is a) = a
-
 -- an address of which the bits of a mask count, any mask
 abbrev pub Masked : Type 0
 Masked = record { value : ℕ; mask : ℕ }
@@ -44,9 +35,6 @@ maskedOverlaps a b = eqb (bitAnd (a .value) (bitAnd (a .mask) (b .mask))) (bitAn
 abbrev pub maskedWithin : Masked → Masked → Bool
 maskedWithin a b = eqb (bitAnd (a .mask) (b .mask)) (b .mask) && eqb (bitAnd (a .value) (b .mask)) (bitAnd (b .value) (b .mask))
 
-abbrev pub maskedMeet : Masked → Masked → Masked
-maskedMeet a b = record { value = bitOr (bitAnd (a .value) (a .mask)) (bitAnd (b .value) (b .mask)); mask = bitOr (a .mask) (b .mask) }
-
 -- no bit of the value stands outside the mask
 abbrev pub maskedClear : Masked → Bool
 maskedClear a = eqb (bitAnd (a .value) (a .mask)) (a .value)
@@ -58,10 +46,6 @@ maskOf n = 2 ^ 32 - 2 ^ (32 - n)
 abbrev pub maskedOf : Prefix → Masked
 maskedOf p = record { value = p .value; mask = maskOf (p .length) }
 
--- two addresses have the same leading bits, as many as a length says
-abbrev pub sameLeading : ℕ → ℕ → ℕ → Bool
-sameLeading v w n = eqb (bitAnd v (maskOf n)) (bitAnd w (maskOf n))
-
 abbrev pub prefixFits : Prefix → ℕ → Bool
 prefixFits p x = maskedFits (maskedOf p) x
 
@@ -70,10 +54,6 @@ prefixOverlaps p q = maskedOverlaps (maskedOf p) (maskedOf q)
 
 abbrev pub prefixWithin : Prefix → Prefix → Bool
 prefixWithin p q = maskedWithin (maskedOf p) (maskedOf q)
-
--- of two prefixes that overlap the longer is what they have in common
-abbrev pub prefixMeet : Prefix → Prefix → Prefix
-prefixMeet p q = cond (leb (q .length) (p .length)) p q
 
 -- no address bit stands past the length
 abbrev pub prefixClear : Prefix → Bool
@@ -109,28 +89,6 @@ within m n =
 
 unfoldable pub clear : Match → Bool
 clear m = prefixClear (m .src) && prefixClear (m .dst)
-
--- the packets that two overlapping matches share, as a match
-unfoldable pub meet : Match → Match → Match
-meet m n = record {
-  port = exactMeet (m .port) (n .port);
-  src = prefixMeet (m .src) (n .src);
-  dst = prefixMeet (m .dst) (n .dst);
-  proto = exactMeet (m .proto) (n .proto);
-  sport = exactMeet (m .sport) (n .sport);
-  dport = exactMeet (m .dport) (n .dport);
-}
-
--- a packet of a match
-unfoldable pub packetOf : Match → Packet
-packetOf m = record {
-  port = exactPoint (m .port);
-  src = m .src .value;
-  dst = m .dst .value;
-  proto = exactPoint (m .proto);
-  sport = exactPoint (m .sport);
-  dport = exactPoint (m .dport);
-}
 
 -- ranges: port, sport, dport 0 to 65535; proto 0 to 255; addresses of 32 bits; lengths 0 to 32, bits past the length zero
 abbrev pub ExactInRange : ℕ → Exact → Type 0

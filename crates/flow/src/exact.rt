@@ -2,7 +2,8 @@
 use crate::ordering::Ordering;
 ghost use mathlib.Core.Path.{_≡_};
 ghost use Rattle.flow.specs.Matches.{exactFits, exactOverlaps, exactWithin};
-ghost use Rattle.flow.specs.Entries.{exactRank, sameExact};
+ghost use Rattle.flow.specs.Entries.{exactRank};
+ghost use Rattle.flow.specs.Inner.{sameExact};
 ghost use Rattle.flow.specs.Orders.{orderOf, thenBy};
 
 pub enum Exact {

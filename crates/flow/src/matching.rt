@@ -4,7 +4,8 @@ use crate::ordering::Ordering;
 use crate::prefix::Prefix;
 ghost use mathlib.Core.Path.{_≡_};
 ghost use Rattle.flow.specs.Matches.{fits, overlaps, within, clear};
-ghost use Rattle.flow.specs.Entries.{sameMatch, matchOrder};
+ghost use Rattle.flow.specs.Entries.{matchOrder};
+ghost use Rattle.flow.specs.Inner.{sameMatch};
 
 pub struct Match {
     pub port: Exact,

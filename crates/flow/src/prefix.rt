@@ -2,8 +2,8 @@
 use crate::ordering::Ordering;
 ghost use mathlib.Core.Path.{_≡_};
 ghost use Prim.Native.Nat.{min};
-ghost use Rattle.flow.specs.Matches.{maskOf, sameLeading, prefixFits, prefixOverlaps, prefixWithin, prefixClear};
-ghost use Rattle.flow.specs.Entries.{samePrefix};
+ghost use Rattle.flow.specs.Matches.{maskOf, prefixFits, prefixOverlaps, prefixWithin, prefixClear};
+ghost use Rattle.flow.specs.Inner.{sameLeading, samePrefix};
 ghost use Rattle.flow.specs.Orders.{orderOf, thenBy};
 
 pub struct Prefix {

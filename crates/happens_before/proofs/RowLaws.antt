@@ -16,7 +16,7 @@ use Rattle.trace_events.specs.Precedence.{precedes}
 use Rattle.trace_events.proofs.TraceLaws.{length-events, event-at}
 use Rattle.happens_before.specs.Types.{Event, Trace}
 use Rattle.happens_before.specs.Causality.{step, before, through}
-use Rattle.happens_before.specs.Rows.{member, noMembers, bit, HappensBefore}
+use Rattle.happens_before.specs.Inner.{member, noMembers, bit, HappensBefore}
 use Rattle.happens_before.proofs.Chains.{before-end}
 use Rattle.happens_before.proofs.SetLaws.{member-none, member-nil}
 

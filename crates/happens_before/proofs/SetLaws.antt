@@ -13,7 +13,7 @@ use lib.Seq.{getD-set-same, getD-set-other}
 use lib.Pow.{pow-add, pow-lt, shl-shr, shl-exact}
 use lib.Bits.{bitOr, or-shr, or-step}
 use borrow.Author.Tests.{eq-eqb, ne-eqb}
-use Rattle.happens_before.specs.Rows.{wordBit, member, noMembers}
+use Rattle.happens_before.specs.Inner.{wordBit, member, noMembers}
 
 parity : (p q : ℕ) → p < 2 → q < 2 → eqb (max p q) 1 ≡ (eqb p 1 || eqb q 1)
 parity zero zero hp hq = refl

@@ -1,3 +1,3 @@
 pub mod Types
 pub mod Causality
-pub mod Rows
+pub mod Inner

@@ -5,7 +5,7 @@ use trace_events::Trace;
 ghost use mathlib.Core.Path.{_≡_};
 ghost use Prim.Native.Nat.{_≤_};
 ghost use Rattle.trace_events.specs.Events.{eventsOf};
-ghost use Rattle.happens_before.specs.Rows.{bit, HappensBefore};
+ghost use Rattle.happens_before.specs.Inner.{bit, HappensBefore};
 
 // For each event the set of those before it: the union of its direct predecessors and their rows, which are filled already. Past the
 // last event the rows stay empty. Both loops stand here, since an inner call would copy the events at each turn.

@@ -1,4 +1,4 @@
--- What the functions of this crate answer.
+-- Inner: what the functions of this crate answer.
 use mathlib.Core.List.{List}
 use Rattle.refusals.specs.Checks.{Checked, outcomeOf}
 use Rattle.trace_events.specs.Events.{eventsOf}

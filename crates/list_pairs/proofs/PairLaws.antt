@@ -10,7 +10,7 @@ use lib.ListN.{length}
 use lib.Seq.{sets}
 use borrow.Author.Tests.{lt-ltb, le-ltb}
 use Rattle.basics.proofs.Gathered.{gather-none, gather-most, gather-more, only-most, size-only}
-use Rattle.text_numbers.specs.Print.{Put}
+use Rattle.text_numbers.specs.Inner.{Put}
 use Rattle.text_numbers.proofs.Writing.{put-then}
 use Rattle.flow_table.specs.FlowTable.{effectOf}
 use Rattle.commuting.specs.Commuting.{commutes}
@@ -20,7 +20,7 @@ use Rattle.happens_before.specs.Causality.{before}
 use Rattle.list_pairs.specs.Types.{Operation, Event, Counts, Verdict}
 use Rattle.list_pairs.specs.List.{test, Pair, cell, pairsWhere, ofKind, pairBytes, countsOf}
 use Rattle.basics.specs.Searches.{only, gather, size}
-use Rattle.list_verdicts.specs.Verdicts.{verdictOf}
+use Rattle.list_verdicts.specs.Inner.{verdictOf}
 use Rattle.call_answers.specs.Inner.{Small}
 use Rattle.list_pairs.specs.Inner.{counts, countOf}
 

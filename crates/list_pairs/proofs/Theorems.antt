@@ -11,7 +11,8 @@ use lib.ListN.{length}
 use borrow.Author.Tests.{eq-eqb, eqb-true, not-true}
 use Rattle.basics.proofs.Booleans.{and-left, and-right, and-intro}
 use Rattle.flow_table.specs.FlowTable.{Table, effectOf, tableEffect}
-use Rattle.commuting.specs.Commuting.{Agree, commutes, witness}
+use Rattle.commuting.specs.Commuting.{Agree, commutes}
+use Rattle.commuting.specs.Inner.{witness}
 use Rattle.commuting.proofs.Theorems.{told, commutes-iff}
 use Rattle.flow_table.specs.Switches.{usesTable, switchOf}
 use Rattle.list_verdicts.specs.Kinds.{paired, isKind, listed}

@@ -1,4 +1,4 @@
--- The counts as the code keeps them, of each pair one verdict, and what it hands over.
+-- Inner: the counts as the code keeps them, of each pair one verdict, and what it hands over.
 use mathlib.Core.Bool.{Bool, true, false}
 use mathlib.Core.List.{List}
 use mathlib.Core.Path.{_≡_}

@@ -10,7 +10,7 @@ ghost use Prim.Native.Nat.{_+_, _≤_};
 ghost use lib.ListN.{length};
 ghost use lib.Seq.{sets};
 ghost use Rattle.trace_events.specs.Events.{eventsOf};
-ghost use Rattle.happens_before.specs.Rows.{HappensBefore};
+ghost use Rattle.happens_before.specs.Inner.{HappensBefore};
 ghost use Rattle.list_pairs.specs.List.{pairBytes, listOf, countsOf};
 ghost use Rattle.list_verdicts.specs.Kinds.{listed};
 ghost use Rattle.basics.specs.Searches.{only};

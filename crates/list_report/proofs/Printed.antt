@@ -4,7 +4,7 @@ use native.Mathlib.Omega.{arith}
 use mathlib.Core.Path.{_≡_, sym, ap, subst, _∙_}
 use mathlib.Core.List.{List, [], _++_}
 use lib.ListN.{take}
-use Rattle.text_numbers.specs.Print.{Put}
+use Rattle.text_numbers.specs.Inner.{Put}
 use Rattle.refusals.specs.Checks.{outcomeOf}
 use Rattle.refusals_text.specs.Report.{refusedText}
 use Rattle.trace_events.specs.Events.{eventsOf}

@@ -7,7 +7,7 @@ use trace_events::Trace;
 ghost use mathlib.Core.Path.{_≡_};
 ghost use Prim.Native.Nat.{_+_, _≤_, _<_, _^_};
 ghost use lib.ListN.{length};
-ghost use Rattle.text_numbers.specs.Print.{Put};
+ghost use Rattle.text_numbers.specs.Inner.{Put};
 ghost use Rattle.call_answers.specs.Inner.{Small};
 ghost use Rattle.trace_events.specs.Events.{eventsOf};
 ghost use Rattle.list_pairs.specs.List.{listingOf};

@@ -5,7 +5,7 @@ use Rattle.flow_table.specs.FlowTable.{effectOf}
 use Rattle.commuting.specs.Commuting.{commutes}
 use Rattle.list_verdicts.specs.Kinds.{paired}
 use Rattle.list_verdicts.specs.Types.{Operation, Verdict}
-use Rattle.list_verdicts.specs.Verdicts.{verdictOf}
+use Rattle.list_verdicts.specs.Inner.{verdictOf}
 
 module _ (o p : Operation) (h : Bool) {x : Bool} (e : x ≡ paired o p) where
   pub unpaired : x ≡ false → Verdict.Unpaired ≡ verdictOf o p h

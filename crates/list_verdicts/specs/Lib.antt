@@ -1,3 +1,3 @@
 pub mod Types
 pub mod Kinds
-pub mod Verdicts
+pub mod Inner

@@ -5,7 +5,7 @@ use trace_events::switch_of;
 ghost use mathlib.Core.Path.{_≡_};
 ghost use Rattle.flow_table.specs.Switches.{usesTable};
 ghost use Rattle.list_verdicts.specs.Kinds.{paired};
-ghost use Rattle.list_verdicts.specs.Verdicts.{verdictOf};
+ghost use Rattle.list_verdicts.specs.Inner.{verdictOf};
 
 // No pair; or a pair that is ordered, commuting or listed.
 pub enum Verdict {

@@ -1,4 +1,4 @@
--- What the search answers.
+-- Inner: what the search answers.
 use mathlib.Core.Option.{Option, none, some}
 use Prim.Native.Nat.{ℕ}
 use Rattle.order_check.specs.Types.{Early}

@@ -8,7 +8,7 @@ use trace_events::Trace;
 ghost use mathlib.Core.Path.{_≡_};
 ghost use Prim.Native.Nat.{_≤_};
 ghost use Rattle.trace_events.specs.Events.{eventsOf};
-ghost use Rattle.happens_before.specs.Rows.{HappensBefore};
+ghost use Rattle.happens_before.specs.Inner.{HappensBefore};
 ghost use Rattle.refusals.specs.Checks.{outcomeOf};
 ghost use Rattle.order_check.specs.Schedule.{checkOrder};
 

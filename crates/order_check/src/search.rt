@@ -1,7 +1,7 @@
 // The search for an event that stands before one which happens before it.
 use happens_before::is_before;
 ghost use mathlib.Core.Path.{_≡_};
-ghost use Rattle.happens_before.specs.Rows.{bit};
+ghost use Rattle.happens_before.specs.Inner.{bit};
 ghost use Rattle.order_check.specs.Schedule.{earlyFrom};
 ghost use Rattle.order_check.specs.Inner.{asPosition};
 

@@ -15,7 +15,7 @@ use Rattle.rows_step.specs.Stepping.{stepRows, replyRows}
 use Rattle.rows_step.proofs.Steps.{sorted-step}
 use Rattle.trace_events.specs.Events.{eventsOf, noEvent}
 use Rattle.trace_events.proofs.TraceLaws.{event-at}
-use Rattle.replay_answers.specs.Answers.{kept, noAnswer, keptAt}
+use Rattle.replay_answers.specs.Inner.{kept, noAnswer, keptAt}
 use Rattle.order_rows.specs.Runs.{operationAt, runRows, keptIn, answersIn}
 use Rattle.order_run.specs.Types.{Answer, Event, Trace, Row, Kept, Operation}
 

@@ -4,7 +4,7 @@ use mathlib.Core.List.{List}
 use Prim.Native.Nat.{ℕ, _+_, _≤_}
 use lib.ListN.{length}
 use Rattle.rows.specs.Rows.{rowsOf}
-use Rattle.replay_answers.specs.Answers.{keptAt}
+use Rattle.replay_answers.specs.Inner.{keptAt}
 use Rattle.order_rows.specs.Runs.{runRows, answersIn}
 use Rattle.order_run.specs.Types.{Event, Rows, Ran}
 

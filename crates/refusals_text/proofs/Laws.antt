@@ -6,7 +6,8 @@ use mathlib.Core.List.{List, _++_}
 use borrow.Author.Tests.{lt-ltb, le-ltb}
 use lib.ListN.{length, length-append}
 use Rattle.basics.specs.Text.{bytes}
-use Rattle.text_numbers.specs.Print.{Put, printNumber}
+use Rattle.text_numbers.specs.Print.{printNumber}
+use Rattle.text_numbers.specs.Inner.{Put}
 use Rattle.text_numbers.proofs.Writing.{print-length}
 use Rattle.refusals.specs.Refusals.{returned, numberOf, placeOf, sourceOf, lineOf}
 use Rattle.refusals_text.specs.Types.{Refusal, Source, Returned}

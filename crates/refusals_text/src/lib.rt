@@ -9,7 +9,7 @@ ghost use mathlib.Core.List.{[], _∷_, _++_};
 ghost use mathlib.Core.Path.{_≡_};
 ghost use Prim.Native.Nat.{_+_, _≤_, _<_, _^_};
 ghost use lib.ListN.{length};
-ghost use Rattle.text_numbers.specs.Print.{Put};
+ghost use Rattle.text_numbers.specs.Inner.{Put};
 ghost use Rattle.refusals_text.specs.Report.{keyNumber, shown, refusalLine, refusedText};
 
 // A key and its number.

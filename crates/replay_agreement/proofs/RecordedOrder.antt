@@ -7,7 +7,7 @@ use Prim.Native.Nat.{ℕ, zero, suc, _+_, _<_}
 use native.Mathlib.Omega.{arith}
 use lib.ListN.{length, getD, take}
 use lib.Seq.{ext-getD, getD-take, length-take-le}
-use Rattle.text_lines.specs.Lines.{newlines}
+use Rattle.text_lines.specs.Inner.{newlines}
 use Rattle.text_lines.proofs.Lines.{lines-count}
 use Rattle.order_meaning.specs.Orders.{from}
 use Rattle.list_pairs.proofs.Theorems.{list-members}

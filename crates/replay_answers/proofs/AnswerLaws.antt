@@ -10,11 +10,13 @@ use native.Mathlib.Omega.{arith}
 use lib.ListN.{length, set, replicate, take, drop, length-append, length-drop, take-append-drop, drop-of-length-le}
 use lib.Seq.{sets, take-all, length-take-le}
 use Rattle.basics.specs.Text.{bytes}
-use Rattle.text_numbers.specs.Print.{printNumber, Put}
+use Rattle.text_numbers.specs.Print.{printNumber}
+use Rattle.text_numbers.specs.Inner.{Put}
 use Rattle.text_numbers.proofs.Writing.{print-length, put-then}
 use Rattle.text_put_fields.proofs.Lengths.{action-length}
 use Rattle.replay_answers.specs.Types.{Answer}
-use Rattle.replay_answers.specs.Answers.{noAnswer, keptAt, printItem, isSilent, printAnswer, answersText}
+use Rattle.replay_answers.specs.Answers.{printItem, isSilent, printAnswer, answersText}
+use Rattle.replay_answers.specs.Inner.{noAnswer, keptAt}
 
 -- no answers yet
 pub none-kept : (n i : ℕ) → keptAt (replicate n noAnswer) i ≡ Answer.Silent

@@ -1,22 +1,11 @@
 -- Document 01, "Tables and replay": the answer lines, by rising event; only `pkt` and `addc` events have one.
 use mathlib.Core.Bool.{Bool, true, false, cond}
-use mathlib.Core.List.{List, [], _∷_, _++_}
+use mathlib.Core.List.{List, [], _++_}
 use Prim.Native.Nat.{ℕ, zero, suc}
-use lib.ListN.{getD}
 use Rattle.basics.specs.Text.{bytes}
 use Rattle.text_numbers.specs.Print.{printNumber}
 use Rattle.text_fields.specs.Print.{printAction}
-use Rattle.replay_answers.specs.Types.{TableOperation, Operation, Answer, Kept}
-
--- the answers that an array keeps
-abbrev pub kept : Answer → Kept
-kept a = record { answer = a }
-
-abbrev pub noAnswer : Kept
-noAnswer = kept Answer.Silent
-
-abbrev pub keptAt : List Kept → ℕ → Answer
-keptAt ks i = getD ks i noAnswer .answer
+use Rattle.replay_answers.specs.Types.{TableOperation, Operation, Answer}
 
 -- only `pkt` and `addc` events have an answer
 abbrev pub answersAs : TableOperation → Bool

@@ -8,8 +8,9 @@ use text_put_fields::put_action;
 ghost use mathlib.Core.Path.{_≡_};
 ghost use Prim.Native.Nat.{_≤_, _<_, _^_};
 ghost use lib.ListN.{length};
-ghost use Rattle.text_numbers.specs.Print.{Put};
-ghost use Rattle.replay_answers.specs.Answers.{keptAt, isSilent, printItem, printAnswer, answersText};
+ghost use Rattle.text_numbers.specs.Inner.{Put};
+ghost use Rattle.replay_answers.specs.Answers.{isSilent, printItem, printAnswer, answersText};
+ghost use Rattle.replay_answers.specs.Inner.{keptAt};
 
 fn is_silent(a: Answer) -> bool
     ensures { λ r. ⌜ r ≡ isSilent a ⌝ }

@@ -3,7 +3,7 @@ use flow_table::Answer;
 ghost use mathlib.Core.Path.{_≡_};
 ghost use Prim.Native.Nat.{ℕ};
 ghost use lib.ListN.{length};
-ghost use Rattle.replay_answers.specs.Answers.{keptAt};
+ghost use Rattle.replay_answers.specs.Inner.{keptAt};
 
 // An answer, silent where none was given.
 pub struct Kept {

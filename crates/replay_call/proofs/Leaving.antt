@@ -14,7 +14,7 @@ use Rattle.inputs.specs.Inputs.{readBoth}
 use Rattle.inputs.proofs.Both.{both-accepted, both-then}
 use Rattle.order_check.specs.Schedule.{checkOrder}
 use Rattle.order_check.proofs.Accepted.{accepted-iff}
-use Rattle.replay_answers.specs.Answers.{keptAt}
+use Rattle.replay_answers.specs.Inner.{keptAt}
 use Rattle.order_rows.specs.Runs.{runRows}
 use Rattle.order_run.specs.Running.{RunsTo}
 use Rattle.order_rows.proofs.EndTables.{run-length}

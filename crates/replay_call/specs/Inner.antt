@@ -1,4 +1,4 @@
--- The later checks of a replay by themselves.
+-- Inner: the later checks of a replay by themselves.
 use mathlib.Core.List.{List}
 use Prim.Native.Nat.{ℕ}
 use lib.Dec.{ltb}

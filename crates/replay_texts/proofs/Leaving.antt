@@ -7,7 +7,7 @@ use native.Mathlib.Omega.{arith}
 use borrow.Author.Tests.{lt-ltb, le-ltb}
 use lib.ListN.{length, drop}
 use Rattle.refusals.specs.Checks.{Checked, written}
-use Rattle.text_numbers.specs.Print.{Put}
+use Rattle.text_numbers.specs.Inner.{Put}
 use Rattle.text_numbers.proofs.Writing.{put-whole}
 use Rattle.tables_normal.specs.Normal.{normalText}
 use Rattle.replay_answers.specs.Answers.{answersText}

@@ -1,4 +1,4 @@
--- What the functions that write both texts leave.
+-- Inner: what the functions that write both texts leave.
 use mathlib.Core.Path.{_≡_}
 use mathlib.Core.List.{List}
 use mathlib.Core.Logic.{inr}

@@ -6,7 +6,7 @@ use rows::Rows;
 ghost use Prim.Native.Nat.{_≤_};
 ghost use lib.ListN.{length};
 ghost use Rattle.rows.specs.Rows.{rowsOf};
-ghost use Rattle.replay_answers.specs.Answers.{keptAt};
+ghost use Rattle.replay_answers.specs.Inner.{keptAt};
 ghost use Rattle.replay_texts.specs.Writing.{bothTexts};
 ghost use Rattle.replay_texts.specs.Inner.{fittingBoth, Leaves};
 

@@ -1,4 +1,4 @@
--- What a pass over rows asks of a filter.
+-- Inner: what a pass over rows asks of a filter.
 use Prim.Native.Nat.{ℕ}
 use Rattle.rows.specs.Types.{Filter}
 

@@ -1,4 +1,4 @@
--- A row's place among rows, and the search for it.
+-- Inner: a row's place among rows, and the search for it.
 use mathlib.Core.Path.{_≡_}
 use mathlib.Core.Bool.{Bool, true, false}
 use mathlib.Core.List.{List, [], _∷_, _++_}

@@ -1,4 +1,4 @@
--- An event as one pass over the rows and at most one row put in: what becomes of each row, the answer so far, and what the work of an
+-- Inner: an event as one pass over the rows and at most one row put in: what becomes of each row, the answer so far, and what the work of an
 -- event is.
 use mathlib.Core.Path.{_≡_}
 use mathlib.Core.Bool.{Bool, false, cond}

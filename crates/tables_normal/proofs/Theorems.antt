@@ -9,7 +9,8 @@ use mathlib.Core.Path.{_≡_, refl, sym, _∙_, ap, subst}
 use native.Mathlib.Omega.{arith}
 use lib.ListN.{getD, getElem?, length-map}
 use Rattle.text_numbers.proofs.Readers.{nothing}
-use Rattle.text_lines.specs.Lines.{lines, newlines, endsWithLf}
+use Rattle.text_lines.specs.Lines.{lines, endsWithLf}
+use Rattle.text_lines.specs.Inner.{newlines}
 use Rattle.text_lines.proofs.Lines.{lines-plain, lines-unlines, unlines-ends}
 use Rattle.flow.proofs.Orders.{equal≢less}
 use Rattle.rows.specs.Rows.{rowOrder, RowBefore, SortedRows}

@@ -8,7 +8,7 @@ use borrow.Rule.Slice.PartMut.{midOf, postOf, putMid, post-is}
 use lib.ListN.{length, getD, take, drop, set, drop-of-length-le, length-append, length-take, length-drop}
 use lib.Seq.{sets, set-out, take-all}
 use Rattle.basics.specs.Text.{bytes}
-use Rattle.text_numbers.specs.Print.{Put}
+use Rattle.text_numbers.specs.Inner.{Put}
 use Rattle.text_numbers.proofs.Writing.{put-none, put-then}
 use Rattle.text_lines.specs.Lines.{unlines}
 use Rattle.basics.proofs.Arrays.{passed}

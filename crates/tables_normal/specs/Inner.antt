@@ -1,4 +1,4 @@
--- What the functions of this crate work with.
+-- Inner: what the functions of this crate work with.
 use Prim.Native.Nat.{ℕ, _≤_}
 use mathlib.Core.List.{List}
 use mathlib.Core.Logic.{inr}

@@ -8,7 +8,7 @@ ghost use mathlib.Core.Path.{_≡_};
 ghost use mathlib.Core.List.{[], _∷_, _++_};
 ghost use Prim.Native.Nat.{_≤_};
 ghost use lib.ListN.{length};
-ghost use Rattle.text_numbers.specs.Print.{Put};
+ghost use Rattle.text_numbers.specs.Inner.{Put};
 ghost use Rattle.rows.specs.Rows.{rowsOf};
 ghost use Rattle.tables_text.specs.TableText.{printRow};
 ghost use Rattle.tables_normal.specs.Normal.{normalText};

@@ -1,4 +1,4 @@
--- What the functions of this crate answer, and the later checks of a table text by themselves.
+-- Inner: what the functions of this crate answer, and the later checks of a table text by themselves.
 use Prim.Native.Nat.{ℕ}
 use mathlib.Core.List.{List}
 use mathlib.Core.Logic.{inl, inr}

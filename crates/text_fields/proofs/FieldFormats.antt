@@ -11,7 +11,8 @@ use Rattle.text_numbers.proofs.Numbers.{number-format}
 use Rattle.text_numbers.proofs.Hex.{hex-format}
 use Rattle.text_numbers.proofs.Format.{Format, keyed-format, along, both-format}
 use Rattle.text_numbers.proofs.Words.{word-format, number-apart}
-use Rattle.flow.specs.Matches.{ExactInRange, exactPoint}
+use Rattle.flow.specs.Matches.{ExactInRange}
+use Rattle.flow.specs.Inner.{exactPoint}
 use Rattle.text_fields.specs.Types.{Exact, Prefix}
 use Rattle.text_fields.specs.Print.{printExact, printPrefix}
 use Rattle.text_fields.specs.Read.{readExact, readPrefix}

@@ -1,11 +1,10 @@
 -- Document 01, "Trace text" and "Tables and replay": reading the parts of a line. That each reader reads the texts of
 -- Print.antt and no others is proved in proofs/.
 use Prim.Native.Nat.{ℕ}
-use mathlib.Core.Option.{Option, none, some}
 use Rattle.basics.specs.Text.{bytes}
 use Rattle.text_numbers.specs.Reading.{Reader, mapped, keyed, wordOr, both}
 use Rattle.text_numbers.specs.Number.{readNumber, readHex}
-use Rattle.text_fields.specs.Types.{Exact, Prefix, Match, Packet, Action, Key, Entry, ExactRead, PrefixRead, MatchRead, PacketRead, ActionRead, KeyRead, EntryRead}
+use Rattle.text_fields.specs.Types.{Exact, Prefix, Match, Packet, Action, Key, Entry}
 
 -- `*`, or a number at most max
 unfoldable pub readExact : ℕ → Reader Exact
@@ -47,32 +46,3 @@ readKey = mapped (λ (n, m). record { priority = n; pattern = m }) (both (keyed 
 -- key, then action
 unfoldable pub readEntry : Reader Entry
 readEntry = mapped (λ (k, a). record { key = k; action = a }) (both readKey (keyed (bytes " act=") readAction))
-
--- what each answer says: the value and the place after it, or nothing
-abbrev pub asExact : ExactRead → Option (Exact × ℕ)
-asExact (ExactRead.Read x n) = some (x, n)
-asExact ExactRead.Bad = none
-
-abbrev pub asPrefix : PrefixRead → Option (Prefix × ℕ)
-asPrefix (PrefixRead.Read p n) = some (p, n)
-asPrefix PrefixRead.Bad = none
-
-abbrev pub asMatch : MatchRead → Option (Match × ℕ)
-asMatch (MatchRead.Read m n) = some (m, n)
-asMatch MatchRead.Bad = none
-
-abbrev pub asPacket : PacketRead → Option (Packet × ℕ)
-asPacket (PacketRead.Read p n) = some (p, n)
-asPacket PacketRead.Bad = none
-
-abbrev pub asAction : ActionRead → Option (Action × ℕ)
-asAction (ActionRead.Read a n) = some (a, n)
-asAction ActionRead.Bad = none
-
-abbrev pub asKey : KeyRead → Option (Key × ℕ)
-asKey (KeyRead.Read k n) = some (k, n)
-asKey KeyRead.Bad = none
-
-abbrev pub asEntry : EntryRead → Option (Entry × ℕ)
-asEntry (EntryRead.Read e n) = some (e, n)
-asEntry EntryRead.Bad = none

@@ -10,7 +10,8 @@ use text_numbers::starts_with;
 ghost use mathlib.Core.Path.{_≡_};
 ghost use Rattle.basics.specs.Text.{bytes};
 ghost use Rattle.text_numbers.specs.Reading.{keyed};
-ghost use Rattle.text_fields.specs.Read.{readAction, readKey, readEntry, asAction, asKey, asEntry};
+ghost use Rattle.text_fields.specs.Read.{readAction, readKey, readEntry};
+ghost use Rattle.text_fields.specs.Inner.{asAction, asKey, asEntry};
 
 // An action that was read and the place after it, or no action.
 pub enum ActionRead {

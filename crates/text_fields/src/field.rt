@@ -9,7 +9,8 @@ use text_numbers::read_number;
 use text_numbers::starts_with;
 ghost use mathlib.Core.Path.{_≡_};
 ghost use Rattle.text_numbers.specs.Reading.{keyed};
-ghost use Rattle.text_fields.specs.Read.{readExact, readPrefix, asExact, asPrefix};
+ghost use Rattle.text_fields.specs.Read.{readExact, readPrefix};
+ghost use Rattle.text_fields.specs.Inner.{asExact, asPrefix};
 
 // A field that was read and the place after it, or no such field.
 pub enum ExactRead {

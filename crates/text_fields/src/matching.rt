@@ -14,7 +14,8 @@ use text_numbers::number_at;
 ghost use mathlib.Core.Path.{_≡_};
 ghost use Rattle.text_numbers.specs.Number.{readNumber};
 ghost use Rattle.text_numbers.specs.Reading.{mapped};
-ghost use Rattle.text_fields.specs.Read.{readExact, readLast, matchFrom, packetFrom, readMatch, readPacket, asMatch, asPacket};
+ghost use Rattle.text_fields.specs.Read.{readExact, readLast, matchFrom, packetFrom, readMatch, readPacket};
+ghost use Rattle.text_fields.specs.Inner.{asMatch, asPacket};
 
 // A match that was read and the place after it, or no match.
 pub enum MatchRead {

@@ -10,7 +10,8 @@ use borrow.Author.Tests.{eq-eqb, ne-eqb}
 use lib.Dec.{eqb}
 use lib.ListN.{length, getD, take, drop, drop-of-length-le, length-append, length-drop}
 use lib.Seq.{drop-cons, drop-drop, take-nil, length-take-le}
-use Rattle.text_lines.specs.Lines.{lines, unlines, lineLength, firstLine, lineStart, newlines}
+use Rattle.text_lines.specs.Lines.{lines, unlines, lineStart}
+use Rattle.text_lines.specs.Inner.{lineLength, firstLine, newlines}
 use Rattle.text_lines.proofs.Lines.{lines-cons}
 
 -- the length of the first line, from the place i on

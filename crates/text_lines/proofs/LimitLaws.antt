@@ -7,7 +7,8 @@ use native.Mathlib.Omega.{arith}
 use borrow.Author.Tests.{lt-ltb, le-ltb, ltb-false}
 use lib.Dec.{ltb}
 use lib.ListN.{length}
-use Rattle.text_lines.specs.Lines.{lines, newlines, endsWithLf}
+use Rattle.text_lines.specs.Lines.{lines, endsWithLf}
+use Rattle.text_lines.specs.Inner.{newlines}
 use Rattle.text_lines.specs.declared.limits.Limit.{Limit}
 use Rattle.text_lines.specs.Limits.{limitOf, Within}
 use Rattle.text_lines.proofs.Lines.{lines-count}

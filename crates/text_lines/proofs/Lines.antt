@@ -9,7 +9,8 @@ use borrow.Author.Tests.{eqb-true}
 use lib.Dec.{eqb, eqb·suc-zero}
 use lib.ListN.{length, getD, take, drop}
 use Rattle.basics.specs.Text.{bytes}
-use Rattle.text_lines.specs.Lines.{inFirst, lines, unlines, lineLength, newlines, endsWithLf}
+use Rattle.text_lines.specs.Lines.{inFirst, lines, unlines, endsWithLf}
+use Rattle.text_lines.specs.Inner.{lineLength, newlines}
 
 -- ---- the first line and the others
 first-other : (b : ℕ) (s : List ℕ) (k : ℕ) (ls : List (List ℕ)) → ls ≡ take k s ∷ lines (drop (k + 1) s)

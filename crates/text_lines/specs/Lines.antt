@@ -20,23 +20,9 @@ unfoldable pub unlines : List (List ℕ) → List ℕ
 unlines [] = []
 unlines (l ∷ ls) = l ++ 10 ∷ unlines ls
 
--- how many bytes stand before the first LF, all of them where there is none
-unfoldable pub lineLength : List ℕ → ℕ
-lineLength [] = 0
-lineLength (b ∷ s) = cond (eqb b 10) 0 (lineLength s + 1)
-
--- the line at the front of a text, without its LF
-unfoldable pub firstLine : List ℕ → List ℕ
-firstLine s = take (lineLength s) s
-
 -- where line n starts: after the lines before it, each with its LF
 unfoldable pub lineStart : List ℕ → ℕ → ℕ
 lineStart s n = length (unlines (take n (lines s)))
-
--- how many LF there are
-unfoldable pub newlines : List ℕ → ℕ
-newlines [] = 0
-newlines (b ∷ s) = cond (eqb b 10) (newlines s + 1) (newlines s)
 
 -- the text is empty, or its last byte is LF
 unfoldable pub endsWithLf : List ℕ → Bool

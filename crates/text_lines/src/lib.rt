@@ -6,7 +6,8 @@ pub use limits::limit_of;
 ghost use mathlib.Core.Path.{_≡_};
 ghost use mathlib.Core.List.{[]};
 ghost use lib.ListN.{getD, take, drop};
-ghost use Rattle.text_lines.specs.Lines.{lines, lineLength, firstLine, lineStart, newlines, endsWithLf};
+ghost use Rattle.text_lines.specs.Lines.{lines, lineStart, endsWithLf};
+ghost use Rattle.text_lines.specs.Inner.{lineLength, firstLine, newlines};
 
 const LF: u8 = b'\n';
 

@@ -7,7 +7,8 @@ use native.Mathlib.Numerals.{add-one}
 use native.Mathlib.Omega.{arith}
 use lib.ListN.{length, getD, take, drop, set, length-append}
 use lib.Seq.{sets, sets-eq, length-sets, take-suc, take-all}
-use Rattle.text_numbers.specs.Print.{printNumber, hexDigit, hexadecimal, Put}
+use Rattle.text_numbers.specs.Print.{printNumber, hexDigit, hexadecimal}
+use Rattle.text_numbers.specs.Inner.{Put}
 use Rattle.text_numbers.proofs.Print.{print-small, print-big}
 pub use Rattle.text_numbers.proofs.Print.{print-length, hex-length}
 

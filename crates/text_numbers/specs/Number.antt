@@ -6,8 +6,6 @@ use mathlib.Core.Option.{Option, none, some}
 use lib.ListN.{getD, drop}
 use lib.Dec.{ltb, leb, eqb}
 use Rattle.text_numbers.specs.Reading.{Reader}
-use Rattle.text_numbers.specs.declared.read.Number.{Number}
-use Rattle.text_numbers.specs.declared.read.Hex.{Hex}
 
 -- `0` to `9`
 unfoldable pub isDigit : ℕ → Bool
@@ -43,12 +41,3 @@ readHexDigits (suc k) v s at =
 -- eight lowercase hexadecimal digits
 unfoldable pub readHex : Reader ℕ
 readHex = readHexDigits 8 0
-
--- what each enum says: the value and the place after it, or nothing
-abbrev pub asNumber : Number → Option (ℕ × ℕ)
-asNumber (Number.Read v n) = some (v, n)
-asNumber Number.Bad = none
-
-abbrev pub asHex : Hex → Option (ℕ × ℕ)
-asHex (Hex.Read v n) = some (v, n)
-asHex Hex.Bad = none

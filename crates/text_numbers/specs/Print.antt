@@ -2,9 +2,6 @@
 use Prim.Native.Nat.{ℕ, zero, suc, _+_, _-_, _/_, _%_}
 use mathlib.Core.Bool.{cond}
 use mathlib.Core.List.{List, [], _∷_, _++_}
-use mathlib.Core.Path.{_≡_}
-use lib.ListN.{length}
-use lib.Seq.{sets}
 use lib.Dec.{ltb}
 
 -- the decimal digits of a number that has at most so many
@@ -28,8 +25,3 @@ hexadecimal (suc k) n = hexadecimal k (n / 16) ++ (hexDigit (n % 16) ∷ [])
 -- a number below 2 ^ 32 as eight hexadecimal digits
 unfoldable pub printHex : ℕ → List ℕ
 printHex n = hexadecimal 8 n
-
--- the text w put at a place of the buffer xs gives ys, and the place after it; what lies past the buffer's end is dropped
-pub record Put (w : List ℕ) (at : ℕ) (xs : List ℕ) (next : ℕ) (ys : List ℕ) : Type 0 where
-  pub after : next ≡ at + length w
-  pub bytes : ys ≡ sets xs at w

@@ -3,7 +3,8 @@
 ghost use mathlib.Core.Path.{_≡_};
 ghost use Prim.Native.Nat.{_≤_, _<_, _^_};
 ghost use lib.ListN.{set};
-ghost use Rattle.text_numbers.specs.Print.{printNumber, hexDigit, hexadecimal, printHex, Put};
+ghost use Rattle.text_numbers.specs.Print.{printNumber, hexDigit, hexadecimal, printHex};
+ghost use Rattle.text_numbers.specs.Inner.{Put};
 
 // A byte, where the buffer has that place.
 pub fn put_byte(out: &mut [u8], at: usize, b: u8)

@@ -4,7 +4,8 @@ use crate::text::starts_with;
 ghost use mathlib.Core.Path.{_≡_};
 ghost use lib.ListN.{drop};
 ghost use Rattle.text_numbers.specs.Reading.{keyed};
-ghost use Rattle.text_numbers.specs.Number.{isDigit, readDigits, readNumber, hexValue, readHex, asNumber, asHex};
+ghost use Rattle.text_numbers.specs.Number.{isDigit, readDigits, readNumber, hexValue, readHex};
+ghost use Rattle.text_numbers.specs.Inner.{asNumber, asHex};
 
 // A number that was read and the place after it, or no such number.
 pub enum Number {

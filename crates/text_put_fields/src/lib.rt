@@ -11,7 +11,7 @@ use text_numbers::put_number;
 ghost use mathlib.Core.List.{_++_};
 ghost use Prim.Native.Nat.{_+_, _≤_, _<_, _^_};
 ghost use lib.ListN.{length};
-ghost use Rattle.text_numbers.specs.Print.{Put};
+ghost use Rattle.text_numbers.specs.Inner.{Put};
 ghost use Rattle.text_fields.specs.Print.{printExact, printPrefix, printMatch, printAction, printKey, printEntry};
 
 // A key, and then `*` or a number.

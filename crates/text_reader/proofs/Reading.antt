@@ -5,9 +5,10 @@ use Prim.Native.Nat.{ℕ, _+_, _-_, _≤_, _<_}
 use native.Mathlib.Omega.{arith}
 use lib.ListN.{length, drop, drop-of-length-le, length-drop}
 use lib.Seq.{drop-drop, drop-length}
-use Rattle.text_lines.specs.Lines.{lines, lineLength, firstLine}
+use Rattle.text_lines.specs.Lines.{lines}
+use Rattle.text_lines.specs.Inner.{lineLength, firstLine}
 use Rattle.text_lines.proofs.Lines.{lines-cons}
-use Rattle.text_reader.specs.Reader.{afterLine}
+use Rattle.text_reader.specs.Inner.{afterLine}
 
 pub read-on : (s : List ℕ) → 0 < length s → lines s ≡ firstLine s ∷ lines (afterLine s)
 unfolding firstLine afterLine

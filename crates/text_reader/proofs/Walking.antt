@@ -42,7 +42,7 @@ pub use denote.Triple.Table.{entered, cited}
 pub use denote.Triple.Walked.{says, Stays, stay-none, stay-none-slice, walkOf, goes-none, goes-none-slice, ends-at, walked, walk-meets}
 pub use denote.Exit.{yes}
 pub use denote.Triple.Clauses.{ensured, lasts}
-pub use Rattle.text_reader.specs.Reader.{afterLine, left}
+pub use Rattle.text_reader.specs.Inner.{afterLine, left}
 pub use Rattle.text_reader.specs.declared.LineReader.{LineReader}
 unfoldable pub use contract.Running.{tablesOf}
 use denote.Struct.Laws as LL

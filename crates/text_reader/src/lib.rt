@@ -6,8 +6,8 @@ use text_lines::rest;
 ghost use mathlib.Core.Path.{_≡_};
 ghost use Prim.Native.Nat.{_≤_};
 ghost use lib.ListN.{length, drop};
-ghost use Rattle.text_lines.specs.Lines.{firstLine};
-ghost use Rattle.text_reader.specs.Reader.{afterLine, left};
+ghost use Rattle.text_lines.specs.Inner.{firstLine};
+ghost use Rattle.text_reader.specs.Inner.{afterLine, left};
 
 pub struct LineReader<'a> {
     pub text: &'a [u8],

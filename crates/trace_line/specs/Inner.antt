@@ -1,4 +1,4 @@
--- What the code's answers say.
+-- Inner: what the code's answers say.
 use mathlib.Core.Logic.{_⊎_, inl, inr}
 use Rattle.trace_line.specs.Types.{Refusal, Event, EventRead}
 

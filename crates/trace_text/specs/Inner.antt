@@ -1,4 +1,4 @@
--- What parts of the code answer.
+-- Inner: what parts of the code answer.
 use mathlib.Core.List.{List}
 use mathlib.Core.Logic.{inr}
 use lib.ListN.{length}

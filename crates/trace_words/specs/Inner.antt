@@ -1,4 +1,4 @@
--- What the code's answers say.
+-- Inner: what the code's answers say.
 use mathlib.Core.Option.{Option, none, some}
 use Prim.Native.Nat.{ℕ}
 use Rattle.trace_words.specs.Types.{Word, WordRead}

@@ -4,7 +4,7 @@ use mathlib.Core.Logic.{⊎-elim}
 use mathlib.Core.Path.{_≡_, sym, _∙_}
 use native.Mathlib.Omega.{arith}
 use lib.ListN.{length, drop}
-use Rattle.text_lines.specs.Lines.{newlines}
+use Rattle.text_lines.specs.Inner.{newlines}
 use Rattle.text_lines.proofs.Laws.{count-end, count-here, count-on}
 use Rattle.text_lines.proofs.count_lines.Statement.{statement}
 use Rattle.text_lines.proofs.count_lines.Tie as tie

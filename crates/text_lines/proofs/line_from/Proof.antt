@@ -1,6 +1,6 @@
 use mathlib.Core.Path.{_∙_}
 use borrow.Author.Needs.{needs}
-use Rattle.text_lines.specs.Lines.{firstLine}
+use Rattle.text_lines.specs.Inner.{firstLine}
 use Rattle.text_lines.proofs.line_from.Statement.{statement}
 use Rattle.text_lines.proofs.line_from.Tie as tie
 

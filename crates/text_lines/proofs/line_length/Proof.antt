@@ -3,7 +3,7 @@ use Prim.Native.Nat.{_-_, _+_}
 use mathlib.Core.Path.{_≡_, sym, _∙_}
 use native.Mathlib.Omega.{arith}
 use lib.ListN.{length, drop}
-use Rattle.text_lines.specs.Lines.{lineLength}
+use Rattle.text_lines.specs.Inner.{lineLength}
 use Rattle.text_lines.proofs.Laws.{length-end, length-here, length-on}
 use Rattle.text_lines.proofs.line_length.Statement.{statement}
 use Rattle.text_lines.proofs.line_length.Tie as tie

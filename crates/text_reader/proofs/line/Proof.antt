@@ -1,7 +1,7 @@
 -- `reader::line` meets its contract: a walk of its MIR, by hand. The struct is taken apart, and `line_from` is called on the text and the position.
 -- All that the proof knows of `line_from` is that it meets its contract. Assumes nothing.
 use Rattle.text_reader.proofs.Walking.{_≡_, refl, ℕ, List, [], _∷_, Holds, URA, named, Val, WT, hasTy, SProp, ent, emp, via, fst∗, snd∗, exE, id⊢, Lft, Share, Memory, Routine, Heap, Calls, Loops, WpFn, Tables, Atoms, sem, Fun, fact, givenOf, tables, Given, ‵, raw, _⊛_, ⋆, some, later, _$_, _∵_, !, qed, by, move, use1, split, pick, fjoin, suffices, frame, await, done, whole, sub, look-in, look, init, forget, stop, fld, from, load, of-opd, and-then, no-more, assigns, land, returns, enter, alloc1, alloc0, params1, pass1, pass0, free1, free0, FmC, fmOf, WpFn-mono, Is, shows, u8, RefT, now, shr-slice-lawful, peeks, heard, nothing, Triple, calls-at, onEntry, Meets, tripleOf, entered, cited, says, Stays, stay-none, walkOf, goes-none, ends-at, walked, walk-meets, yes, ensured, lasts, left, LineReader, tablesOf, B, D, L, Text, LineFrom, Token, Own, to, apart}
-use Rattle.text_lines.specs.Lines.{firstLine}
+use Rattle.text_lines.specs.Inner.{firstLine}
 use denote.Struct.Laws as LL
 use Rattle.text_reader.proofs.LineReader.Laws as T′
 use Rattle.text_lines.proofs.line_from as called

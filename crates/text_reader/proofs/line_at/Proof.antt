@@ -1,7 +1,7 @@
 -- `reader::line_at` meets its contract: a walk of its MIR, by hand. The reader is made in a local and passed to `line`.
 -- All that the proof knows of `line` is that it meets its contract. Assumes nothing.
 use Rattle.text_reader.proofs.Walking.{_≡_, refl, ℕ, _<_, _^_, List, [], _∷_, drop, URA, named, w64, Val, vint, SProp, ent, emp, via, fst∗, snd∗, exE, id⊢, Lft, Share, Memory, Routine, Heap, Calls, Loops, WpFn, Tables, Atoms, sem, Fun, fact, givenOf, tables, Given, ‵, raw, _⊛_, ⋆, some, later, _$_, _∵_, !, qed, by, move, use1, split, pick, fjoin, suffices, frame, await, done, agg, look, init, forget, stop, from, load, and-then, no-more, assigns, land, returns, enter, alloc1, alloc0, params1, pass1, pass0, free1, free0, FmC, fmOf, WpFn-mono, Is, shows, uint-vals, uint-tells, uint-makes, u8, usize, RefT, now, plain, slice-vals, shr-slice-tells, shr-slice-lawful, owned, peeks, heard, nothing, Triple, calls-at, onEntry, Meets, tripleOf, entered, cited, says, Stays, stay-none, stay-none-slice, walkOf, goes-none, goes-none-slice, ends-at, walked, walk-meets, yes, ensured, lasts, LineReader, tablesOf, Text, textVal, passed, Line, Token, made, to-made, OwnText, put-together}
-use Rattle.text_lines.specs.Lines.{firstLine}
+use Rattle.text_lines.specs.Inner.{firstLine}
 use Rattle.text_reader.proofs.line as called
 use Rattle.text_reader.proofs.line.Symbol as callee
 use Rattle.text_reader.proofs.line.Met as callee-met

@@ -1,7 +1,7 @@
 use mathlib.Core.Path.{sym, _∙_}
 use native.Mathlib.Omega.{arith}
 use borrow.Author.Needs.{needs}
-use Rattle.text_numbers.specs.Number.{asNumber}
+use Rattle.text_numbers.specs.Inner.{asNumber}
 use Rattle.text_numbers.proofs.Readers.{seen}
 use Rattle.trace_tokens.proofs.TokenListLaws.{byte-in, next-end, next-bad, next-low, next-above}
 use Rattle.trace_tokens.proofs.next_token.Statement.{statement}

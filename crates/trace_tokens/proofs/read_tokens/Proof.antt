@@ -1,7 +1,7 @@
 use mathlib.Core.Path.{sym, _∙_}
 use native.Mathlib.Omega.{arith}
 use borrow.Author.Needs.{needs}
-use Rattle.text_numbers.specs.Number.{asNumber}
+use Rattle.text_numbers.specs.Inner.{asNumber}
 use Rattle.text_numbers.proofs.Readers.{seen}
 use Rattle.trace_tokens.proofs.TokenListLaws.{byte-in, tokens-none, tokens-bad, tokens-some}
 use Rattle.trace_tokens.proofs.read_tokens.Statement.{statement}

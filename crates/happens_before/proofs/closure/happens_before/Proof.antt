@@ -8,7 +8,7 @@ use Rattle.trace_events.specs.Events.{eventsOf}
 use Rattle.basics.specs.Searches.{anyBelow}
 use Rattle.trace_events.proofs.TraceLaws.{length-events}
 use Rattle.basics.proofs.Arrays.{length-mapped}
-use Rattle.happens_before.specs.Rows.{member}
+use Rattle.happens_before.specs.Inner.{member}
 use Rattle.happens_before.proofs.RowLaws.{Filled, step-at, joined, filled-at, filled-none, filled-more, filled-all}
 use Rattle.happens_before.proofs.Chains.{row-union}
 use Rattle.happens_before.specs.Causality.{through}

@@ -1,5 +1,5 @@
 use borrow.Author.Needs.{needs}
-use Rattle.happens_before.specs.Rows.{bit}
+use Rattle.happens_before.specs.Inner.{bit}
 use Rattle.happens_before.proofs.closure.is_before.Statement.{statement}
 use Rattle.happens_before.proofs.closure.is_before.Tie as tie
 

@@ -12,7 +12,7 @@ use Rattle.basics.proofs.Arrays.{length-mapped}
 use Rattle.list_pairs.specs.Types.{Event}
 use Rattle.list_pairs.specs.List.{test, Pair, pairBytes, ofKind}
 use Rattle.list_verdicts.specs.Kinds.{listed, Kind}
-use Rattle.list_verdicts.specs.Verdicts.{verdictOf}
+use Rattle.list_verdicts.specs.Inner.{verdictOf}
 use Rattle.list_pairs.specs.Inner.{countOf}
 use Rattle.list_pairs.proofs.PairLaws.{pairsOf, row-start, row-most, small-of, count-turn, bytes-turn, rowsBelow, below-most, below-count, below-bytes, all-rows, counted}
 use Rattle.list_pairs.proofs.pass.scan.Statement.{statement}

@@ -4,7 +4,7 @@ use native.Mathlib.Omega.{arith}
 use mathlib.Core.Path.{_≡_, refl}
 use mathlib.Core.List.{List, [], _++_}
 use lib.ListN.{length, drop}
-use Rattle.text_numbers.specs.Print.{Put}
+use Rattle.text_numbers.specs.Inner.{Put}
 use Rattle.text_numbers.proofs.Writing.{put-none, put-length}
 use Rattle.list_report.specs.Report.{raceLines}
 use Rattle.list_report.proofs.ReportLaws.{races-turn, races-done}

@@ -7,7 +7,7 @@ use borrow.Author.Tests.{not-true, not-false}
 use Rattle.trace_events.specs.Events.{eventsOf}
 use Rattle.trace_events.proofs.TraceLaws.{length-events}
 use Rattle.basics.proofs.Arrays.{length-mapped}
-use Rattle.happens_before.specs.Rows.{bit}
+use Rattle.happens_before.specs.Inner.{bit}
 use Rattle.refusals.specs.Checks.{refuseAt}
 use Rattle.order_check.specs.Types.{Refusal}
 use Rattle.order_check.specs.Schedule.{checkOrder}

@@ -3,7 +3,7 @@ use mathlib.Core.Path.{_≡_, refl, sym, ap, _∙_}
 use Prim.Native.Nat.{_-_, _≤_}
 use lib.ListN.{drop}
 use borrow.Author.Needs.{needs}
-use Rattle.happens_before.specs.Rows.{bit}
+use Rattle.happens_before.specs.Inner.{bit}
 use Rattle.order_check.specs.Types.{Early}
 use Rattle.order_check.specs.Schedule.{anyBefore, earlyFrom}
 use Rattle.order_check.specs.Inner.{asPosition}

@@ -5,7 +5,8 @@ use mathlib.Core.Path.{_≡_, refl, ap, _∙_}
 use lib.ListN.{length}
 use borrow.Author.Needs.{needs}
 use Rattle.basics.proofs.Arrays.{length-mapped}
-use Rattle.replay_answers.specs.Answers.{keptAt, answersText}
+use Rattle.replay_answers.specs.Answers.{answersText}
+use Rattle.replay_answers.specs.Inner.{keptAt}
 use Rattle.replay_answers.proofs.AnswerLaws.{text-length, counted}
 use Rattle.replay_answers.proofs.answers.answers_length.Statement.{statement}
 use Rattle.replay_answers.proofs.answers.answers_length.Tie as tie

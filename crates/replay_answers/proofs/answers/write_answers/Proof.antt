@@ -4,10 +4,11 @@ use native.Mathlib.Omega.{arith}
 use mathlib.Core.Path.{_≡_, refl, subst, _∙_}
 use lib.ListN.{length}
 use borrow.Author.Needs.{needs}
-use Rattle.text_numbers.specs.Print.{Put}
+use Rattle.text_numbers.specs.Inner.{Put}
 use Rattle.text_numbers.proofs.Writing.{put-none}
 use Rattle.basics.proofs.Arrays.{length-mapped}
-use Rattle.replay_answers.specs.Answers.{keptAt, answersText}
+use Rattle.replay_answers.specs.Answers.{answersText}
+use Rattle.replay_answers.specs.Inner.{keptAt}
 use Rattle.replay_answers.proofs.AnswerLaws.{text-length, text-rises, line-put}
 use Rattle.replay_answers.proofs.answers.write_answers.Statement.{statement}
 use Rattle.replay_answers.proofs.answers.write_answers.Tie as tie

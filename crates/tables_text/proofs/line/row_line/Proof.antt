@@ -5,10 +5,10 @@ use borrow.Author.Needs.{needs}
 use borrow.Author.Tests.{not-true, not-false, eq-eqb, ne-eqb}
 use Rattle.basics.specs.Text.{bytes}
 use Rattle.text_numbers.specs.Reading.{andThen, mapped, both}
-use Rattle.text_numbers.specs.Number.{asNumber}
+use Rattle.text_numbers.specs.Inner.{asNumber}
 use Rattle.text_numbers.proofs.Readers.{seen}
 use Rattle.text_numbers.proofs.Format.{keyed-below}
-use Rattle.text_fields.specs.Read.{asEntry}
+use Rattle.text_fields.specs.Inner.{asEntry}
 use Rattle.tables_text.specs.TableText.{rowReader, readRow, readRowLine}
 use Rattle.tables_text.proofs.line.row_line.Statement.{statement}
 use Rattle.tables_text.proofs.line.row_line.Tie as tie

@@ -1,6 +1,7 @@
 use borrow.Author.Needs.{needs}
 use Rattle.text_numbers.proofs.Readers.{seen, mapped-none, mapped-some, both-none, both-some}
-use Rattle.text_fields.specs.Read.{readEntry, asKey, asAction}
+use Rattle.text_fields.specs.Read.{readEntry}
+use Rattle.text_fields.specs.Inner.{asKey, asAction}
 use Rattle.text_fields.proofs.entry.entry_at.Statement.{statement}
 use Rattle.text_fields.proofs.entry.entry_at.Tie as tie
 

@@ -1,7 +1,8 @@
 use borrow.Author.Needs.{needs}
-use Rattle.text_numbers.specs.Number.{asNumber}
+use Rattle.text_numbers.specs.Inner.{asNumber}
 use Rattle.text_numbers.proofs.Readers.{seen, mapped-none, mapped-some, both-none, both-some}
-use Rattle.text_fields.specs.Read.{readKey, asMatch}
+use Rattle.text_fields.specs.Read.{readKey}
+use Rattle.text_fields.specs.Inner.{asMatch}
 use Rattle.text_fields.proofs.entry.key_at.Statement.{statement}
 use Rattle.text_fields.proofs.entry.key_at.Tie as tie
 

@@ -1,7 +1,7 @@
 use native.Mathlib.Omega.{arith}
 use borrow.Author.Needs.{needs}
 use Rattle.basics.specs.Text.{bytes}
-use Rattle.text_numbers.specs.Number.{asNumber}
+use Rattle.text_numbers.specs.Inner.{asNumber}
 use Rattle.text_numbers.proofs.Readers.{seen, mapped-none, mapped-some}
 use Rattle.text_numbers.proofs.Keys.{key-room, word-there, no-word}
 use Rattle.text_fields.specs.Read.{readAction}

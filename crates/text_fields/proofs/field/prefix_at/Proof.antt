@@ -1,6 +1,6 @@
 use lib.Dec.{lit<}
 use borrow.Author.Needs.{needs}
-use Rattle.text_numbers.specs.Number.{asNumber, asHex}
+use Rattle.text_numbers.specs.Inner.{asNumber, asHex}
 use Rattle.text_numbers.proofs.Readers.{seen, mapped-none, mapped-some, both-none, both-some}
 use Rattle.text_numbers.proofs.Keys.{keyed-both}
 use Rattle.text_numbers.proofs.Format.{keyed-below}

@@ -1,6 +1,7 @@
 use borrow.Author.Needs.{needs}
 use Rattle.text_numbers.proofs.Readers.{seen, both-none, both-some}
-use Rattle.text_fields.specs.Read.{readSix, readMatch, asExact, asPrefix}
+use Rattle.text_fields.specs.Read.{readSix, readMatch}
+use Rattle.text_fields.specs.Inner.{asExact, asPrefix}
 use Rattle.text_fields.proofs.matching.match_at.Statement.{statement}
 use Rattle.text_fields.proofs.matching.match_at.Tie as tie
 

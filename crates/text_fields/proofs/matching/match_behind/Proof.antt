@@ -1,6 +1,7 @@
 use borrow.Author.Needs.{needs}
 use Rattle.text_numbers.proofs.Readers.{seen, mapped-none, mapped-some, both-none, both-some}
-use Rattle.text_fields.specs.Read.{readLast, asExact}
+use Rattle.text_fields.specs.Read.{readLast}
+use Rattle.text_fields.specs.Inner.{asExact}
 use Rattle.text_fields.proofs.matching.match_behind.Statement.{statement}
 use Rattle.text_fields.proofs.matching.match_behind.Tie as tie
 

@@ -1,6 +1,6 @@
 use borrow.Author.Needs.{needs}
 use Rattle.text_numbers.proofs.Readers.{seen, both-none, both-some}
-use Rattle.text_numbers.specs.Number.{asNumber, asHex}
+use Rattle.text_numbers.specs.Inner.{asNumber, asHex}
 use Rattle.text_fields.specs.Read.{readSix, readPacket}
 use Rattle.text_fields.proofs.matching.packet_at.Statement.{statement}
 use Rattle.text_fields.proofs.matching.packet_at.Tie as tie

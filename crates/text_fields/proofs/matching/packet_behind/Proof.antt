@@ -1,6 +1,6 @@
 use borrow.Author.Needs.{needs}
 use Rattle.text_numbers.proofs.Readers.{seen, mapped-none, mapped-some, both-none, both-some}
-use Rattle.text_numbers.specs.Number.{asNumber}
+use Rattle.text_numbers.specs.Inner.{asNumber}
 use Rattle.text_fields.specs.Read.{readLast}
 use Rattle.text_fields.proofs.matching.packet_behind.Statement.{statement}
 use Rattle.text_fields.proofs.matching.packet_behind.Tie as tie

@@ -5,7 +5,7 @@ use native.Mathlib.Nat.{add-zero}
 use native.Mathlib.Omega.{arith}
 use borrow.Author.Needs.{needs}
 use lib.ListN.{length, take}
-use Rattle.text_numbers.specs.Print.{Put}
+use Rattle.text_numbers.specs.Inner.{Put}
 use Rattle.text_numbers.proofs.Writing.{put-none, put-more, put-all}
 use Rattle.text_numbers.proofs.put.put_bytes.Statement.{statement}
 use Rattle.text_numbers.proofs.put.put_bytes.Tie as tie

@@ -1,5 +1,5 @@
 use borrow.Author.Needs.{needs}
-use Rattle.text_numbers.specs.Number.{asNumber}
+use Rattle.text_numbers.specs.Inner.{asNumber}
 use Rattle.text_numbers.proofs.Readers.{seen}
 use Rattle.trace_words.specs.Inner.{asWord}
 use Rattle.trace_line.proofs.LineLaws.{bad-number, bad-word, behind-word}

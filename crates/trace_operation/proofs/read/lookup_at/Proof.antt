@@ -1,6 +1,6 @@
 use borrow.Author.Needs.{needs}
 use Rattle.text_numbers.proofs.Readers.{seen, mapped-none, mapped-some}
-use Rattle.text_fields.specs.Read.{asPacket}
+use Rattle.text_fields.specs.Inner.{asPacket}
 use Rattle.trace_operation.proofs.read.lookup_at.Statement.{statement}
 use Rattle.trace_operation.proofs.read.lookup_at.Tie as tie
 

@@ -1,6 +1,6 @@
 use lib.Dec.{lit<}
 use borrow.Author.Needs.{needs}
-use Rattle.text_numbers.specs.Number.{asNumber}
+use Rattle.text_numbers.specs.Inner.{asNumber}
 use Rattle.text_numbers.proofs.Readers.{seen}
 use Rattle.text_numbers.proofs.Format.{keyed-below}
 use Rattle.trace_operation.proofs.OperationLaws.{no-switch, bad-switch, on-switch}

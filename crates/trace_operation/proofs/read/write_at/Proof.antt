@@ -2,7 +2,7 @@ use mathlib.Core.Option.{some}
 use mathlib.Core.Path.{_∙_, ap}
 use borrow.Author.Needs.{needs}
 use Rattle.text_numbers.proofs.Readers.{seen, mapped-none, mapped-some}
-use Rattle.text_fields.specs.Read.{asEntry}
+use Rattle.text_fields.specs.Inner.{asEntry}
 use Rattle.trace_operation.specs.Types.{Operation}
 use Rattle.trace_operation.proofs.read.write_at.Statement.{statement}
 use Rattle.trace_operation.proofs.read.write_at.Tie as tie

@@ -1,4 +1,4 @@
-use Rattle.flow.specs.Entries.{sameMatch}
+use Rattle.flow.specs.Inner.{sameMatch}
 use borrow.Author.Needs.{needs}
 use Rattle.flow.proofs.matching.Match.same.Statement.{statement}
 use Rattle.flow.proofs.matching.Match.same.Tie as tie

@@ -1,5 +1,5 @@
 use mathlib.Core.Path.{sym, _∙_, ap}
-use Rattle.flow.specs.Matches.{sameLeading}
+use Rattle.flow.specs.Inner.{sameLeading}
 use Rattle.flow.proofs.PrefixField.{overlaps-shorter}
 use borrow.Author.Needs.{needs}
 use Rattle.flow.proofs.prefix.Prefix.overlaps.Statement.{statement}

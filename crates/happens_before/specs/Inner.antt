@@ -1,9 +1,9 @@
--- Document 01, "Happens-before": it is held as 256 rows of four 64-bit words, each row the set of the events before one.
+-- Inner: happens-before as it is held, 256 rows of four 64-bit words, each row the set of the events before one.
 use mathlib.Core.Path.{_≡_}
-use mathlib.Core.Bool.{Bool, _&&_}
+use mathlib.Core.Bool.{Bool}
 use mathlib.Core.List.{List, [], _∷_}
 use Prim.Native.Nat.{ℕ, _/_, _%_, _^_}
-use lib.Dec.{eqb, ltb}
+use lib.Dec.{eqb}
 use lib.ListN.{getD}
 use Rattle.happens_before.specs.Types.{Event}
 use Rattle.happens_before.specs.Causality.{before}

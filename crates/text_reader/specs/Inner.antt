@@ -1,4 +1,4 @@
--- Document 01, "Trace text": the line reader keeps the lent text and how far it has come.
+-- Inner: what a line reader has left of its text.
 use mathlib.Core.List.{List}
 use Prim.Native.Nat.{ℕ, _+_}
 use denote.Ref.{now}

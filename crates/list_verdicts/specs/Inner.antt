@@ -1,4 +1,4 @@
--- Document 01, "The list": of each pair of events one verdict.
+-- Inner: of each pair of events one verdict.
 use mathlib.Core.Bool.{Bool, cond}
 use Rattle.flow_table.specs.FlowTable.{effectOf}
 use Rattle.commuting.specs.Commuting.{commutes}

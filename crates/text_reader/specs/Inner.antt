@@ -3,7 +3,7 @@ use mathlib.Core.List.{List}
 use Prim.Native.Nat.{ℕ, _+_}
 use denote.Ref.{now}
 use lib.ListN.{drop}
-use Rattle.text_lines.specs.Lines.{lineLength}
+use Rattle.text_lines.specs.Inner.{lineLength}
 use Rattle.text_reader.specs.declared.LineReader.{LineReader}
 
 -- what follows the first line and its LF

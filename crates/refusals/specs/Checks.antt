@@ -30,12 +30,12 @@ abbrev pub refuseAt : Option ℕ → (ℕ → Refusal) → Checked (Unit {0})
 refuseAt (some place) r = inl (r place)
 refuseAt none r = inr tt
 
--- refused where a text breaks its limits
+-- 1, 2, 3 or 11, 12, 13: the first limit that a text exceeds
 abbrev pub refuseLimit : Limit → Refusal → Refusal → Refusal → Checked (Unit {0})
-refuseLimit Limit.TooLong a b c = inl a
-refuseLimit Limit.Unended a b c = inl b
-refuseLimit Limit.TooManyLines a b c = inl c
-refuseLimit Limit.Kept a b c = inr tt
+refuseLimit Limit.TooLong long unended many = inl long
+refuseLimit Limit.Unended long unended many = inl unended
+refuseLimit Limit.TooManyLines long unended many = inl many
+refuseLimit Limit.Kept long unended many = inr tt
 
 -- refused where a text is longer than the room that is lent: the bytes needed
 abbrev pub refuseShort : ℕ → List ℕ → (ℕ → Refusal) → Checked (Unit {0})

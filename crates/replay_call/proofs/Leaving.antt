@@ -27,11 +27,11 @@ use Rattle.replay_call.specs.Inner.{ranFrom, orderedFrom}
 
 -- ---- what an outcome says, by its case
 module _ {A : Type 0} (a : A) {o : Outcome} {x : Checked A} where
-  pub refused-by : {e : Refusal} → o ≡ Outcome.Refused e → outcomeOf o a ≡ x → inl e ≡ x
-  refused-by p q = sym (ap (λ z. outcomeOf z a) p) ∙ q
+  pub outcome-refused : {e : Refusal} → o ≡ Outcome.Refused e → outcomeOf o a ≡ x → inl e ≡ x
+  outcome-refused p q = sym (ap (λ z. outcomeOf z a) p) ∙ q
 
-  pub accepted-by : o ≡ Outcome.Accepted → outcomeOf o a ≡ x → inr a ≡ x
-  accepted-by p q = sym (ap (λ z. outcomeOf z a) p) ∙ q
+  pub outcome-accepted : o ≡ Outcome.Accepted → outcomeOf o a ≡ x → inr a ≡ x
+  outcome-accepted p q = sym (ap (λ z. outcomeOf z a) p) ∙ q
 
 -- ---- the run: 41 never
 module _ (es : List Event) (o : List ℕ) (start : Rows) (ran : Ran) (runs : RunsTo es o start ran) (few : start .len ≤ 256) (short : length o ≤ 256) where

@@ -8,7 +8,7 @@ use Rattle.trace_events.specs.Events.{eventsOf}
 use Rattle.rows.specs.Rows.{rowsOf}
 use Rattle.inputs.specs.Inputs.{readBoth}
 use Rattle.replay_call.specs.Types.{Event, Row}
-use Rattle.replay_call.proofs.Leaving.{refused-by, accepted-by, texts-refused, texts-accepted, start-sorted, called}
+use Rattle.replay_call.proofs.Leaving.{outcome-refused, outcome-accepted, texts-refused, texts-accepted, start-sorted, called}
 use Rattle.replay_call.proofs.replaying.replay.Statement.{statement}
 use Rattle.replay_call.proofs.replaying.replay.Tie as tie
 
@@ -20,7 +20,7 @@ abbrev start : tie.After-read-both → tie.Start
 start p = p .before .before .before .before .before .before
 
 accepted : (c : tie.After-enum-told) → let p = c .before .before in inr (readAs p) ≡ readBoth (now (start p .args .trace)) (now (start p .args .tables))
-accepted c = let p = c .before .before in accepted-by (readAs p) (c .enum-told .given .1) (p .read-both .ensures .0)
+accepted c = let p = c .before .before in outcome-accepted (readAs p) (c .enum-told .given .1) (p .read-both .ensures .0)
 
 replay-order-requires : tie.Need-replay-order-requires
 replay-order-requires c κs =
@@ -33,7 +33,7 @@ returns c =
     let at-read = c .before .before .before in
     let a = start at-read .args in
     called (now (a .trace)) (now (a .tables)) (now (a .order)) (now (a .tables-out)) (now (a .answers-out))
-    (texts-refused _ _ _ _ _ (refused-by (readAs at-read) (c .before .outcome .given .1) (at-read .read-both .ensures .0)))
+    (texts-refused _ _ _ _ _ (outcome-refused (readAs at-read) (c .before .outcome .given .1) (at-read .read-both .ensures .0)))
 
 returns-2 : tie.Need-returns-2
 returns-2 c =

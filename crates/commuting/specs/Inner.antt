@@ -1,6 +1,7 @@
 -- Inner: a table of at most one entry that tells apart the two orders of each pair that does not commute.
 use mathlib.Core.Bool.{cond}
 use mathlib.Core.List.{[], _∷_}
+use Rattle.commuting.specs.Commuting.{at}
 use Rattle.flow.specs.Inner.{meet}
 use Rattle.flow.specs.Entries.{sameAction}
 use Rattle.flow_table.specs.FlowTable.{Table, entry, Effect, pkt, add, addc, modn, dels, deln, idle}

@@ -2,5 +2,4 @@
 pub use Rattle.refusals.specs.declared.refusal.Outcome.{Outcome}
 pub use Rattle.trace_events.specs.declared.event.Event.{Event}
 pub use Rattle.rows.specs.declared.row.Row.{Row}
-pub use Rattle.trace_text.specs.declared.text.Outcome.{Outcome as TraceOutcome}
 pub use Rattle.inputs.specs.declared.Inputs.{Inputs}

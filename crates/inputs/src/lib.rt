@@ -2,7 +2,6 @@
 use refusals::Outcome;
 use rows::Rows;
 use trace_events::Trace;
-use trace_text::Outcome as TraceOutcome;
 ghost use mathlib.Core.Path.{_≡_};
 ghost use Prim.Native.Nat.{_≤_};
 ghost use Rattle.inputs.specs.Inputs.{readBoth};
@@ -16,12 +15,12 @@ pub struct Inputs {
 }
 
 // What is refused of the trace; else what is refused of the tables.
-fn first_refused(trace: TraceOutcome, tables: Outcome) -> Outcome
+fn first_refused(trace: Outcome, tables: Outcome) -> Outcome
     ensures { λ r. ⌜ r ≡ firstRefused trace tables ⌝ }
 {
     match trace {
-        TraceOutcome::Refused(r) => Outcome::Refused(r),
-        TraceOutcome::Accepted => tables,
+        Outcome::Refused(r) => Outcome::Refused(r),
+        Outcome::Accepted => tables,
     }
 }
 

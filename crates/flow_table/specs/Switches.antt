@@ -29,5 +29,5 @@ unfoldable pub stepOf : Operation → Tables → Tables
 stepOf o s = λ w. cond (eqb w (switchOf o)) (after (effectOf o) (s w)) (s w)
 
 -- its answer
-unfoldable pub replyOf : Operation → Tables → Answer
-replyOf o s = answer (effectOf o) (s (switchOf o))
+unfoldable pub answerOf : Operation → Tables → Answer
+answerOf o s = answer (effectOf o) (s (switchOf o))

@@ -3,25 +3,24 @@ use mathlib.Core.List.{List}
 use mathlib.Core.Logic.{inl, inr}
 use mathlib.Core.Path.{_≡_, refl, ap}
 use Prim.Native.Nat.{ℕ}
-use Rattle.refusals.specs.Checks.{Checked, _▹_, outcomeOf}
+use Rattle.refusals.specs.Checks.{Checked, _▹_, outcomeOf, firstOf}
 use Rattle.text_reader.proofs.Each.{refuses}
 use Rattle.trace_text.specs.TraceText.{readTrace}
 use Rattle.tables_text.specs.TableText.{readTables}
 use Rattle.inputs.specs.Types.{Event, Row, Outcome}
 use Rattle.inputs.specs.Inputs.{readBoth}
-use Rattle.inputs.specs.Inner.{firstRefused}
 
 abbrev paired : List Event → List Row → List Event × List Row
 paired es rs = (es, rs)
 
 -- the outcome of both is that of the first refusal
 outcomes : (a : Outcome) (b : Outcome) (es : List Event) (rs : List Row)
-    → outcomeOf (firstRefused a b) (paired es rs) ≡ (outcomeOf a es ▹ λ x. outcomeOf b rs ▹ λ y. inr (paired x y))
+    → outcomeOf (firstOf a b) (paired es rs) ≡ (outcomeOf a es ▹ λ x. outcomeOf b rs ▹ λ y. inr (paired x y))
 outcomes (Outcome.Refused r) b es rs = refl
 outcomes Outcome.Accepted Outcome.Accepted es rs = refl
 outcomes Outcome.Accepted (Outcome.Refused r) es rs = refl
 
-pub read-both : (s t : List ℕ) (a : Outcome) (b : Outcome) {o : Outcome} (es : List Event) (rs : List Row) → o ≡ firstRefused a b → outcomeOf a es ≡ readTrace s → outcomeOf b rs ≡ readTables t
+pub read-both : (s t : List ℕ) (a : Outcome) (b : Outcome) {o : Outcome} (es : List Event) (rs : List Row) → o ≡ firstOf a b → outcomeOf a es ≡ readTrace s → outcomeOf b rs ≡ readTables t
     → outcomeOf o (paired es rs) ≡ readBoth s t
 unfolding readBoth
 read-both s t a b es rs e p q = rw (← p, ← q, e) (outcomes a b es rs)

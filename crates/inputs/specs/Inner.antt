@@ -3,12 +3,7 @@ use mathlib.Core.List.{List}
 use Rattle.refusals.specs.Checks.{Checked, outcomeOf}
 use Rattle.trace_events.specs.Events.{eventsOf}
 use Rattle.rows.specs.Rows.{rowsOf}
-use Rattle.inputs.specs.Types.{Event, Row, Outcome, Inputs}
-
--- the first of two outcomes that is a refusal
-abbrev pub firstRefused : Outcome → Outcome → Outcome
-firstRefused (Outcome.Refused r) tables = Outcome.Refused r
-firstRefused Outcome.Accepted tables = tables
+use Rattle.inputs.specs.Types.{Event, Row, Inputs}
 
 abbrev pub asInputs : Inputs → Checked (List Event × List Row)
 asInputs r = outcomeOf (r .outcome) (eventsOf (r .trace), rowsOf (r .rows))

@@ -8,16 +8,17 @@ use lib.Seq.{length-take-le, take-all}
 use Rattle.refusals.specs.Checks.{Checked, written}
 use Rattle.refusals.proofs.Checks.{on-refused, on-accepted, short-refused, short-passed}
 use Rattle.trace_events.specs.Events.{eventsOf}
-use Rattle.trace_text.specs.TraceText.{readTrace, asTrace}
+use Rattle.trace_text.specs.TraceText.{readTrace}
+use Rattle.trace_text.specs.Inner.{asTrace}
 use Rattle.list_pairs.specs.List.{listOf, pairBytes, Listing, listingOf}
-use Rattle.list_pairs.specs.Inner.{Holds}
+use Rattle.list_pairs.specs.Inner.{HoldsList}
 use Rattle.basics.specs.Text.{startingWith}
 use Rattle.list_call.specs.Types.{Event, Counts, Refusal, ListAnswer, ListBuffer, Outcome, TraceRead}
 use Rattle.list_call.specs.Races.{listRaces, listAnswer, listOut}
 use Rattle.list_call.specs.Inner.{fitted, Lists}
 
 -- ---- the list in a buffer of its own
-module _ (es : List Event) (b : ListBuffer) (h : Holds es b) where
+module _ (es : List Event) (b : ListBuffer) (h : HoldsList es b) where
   listed-bytes : take (b .length) (b .bytes) ≡ pairBytes (listOf es)
   unfolding listingOf
   listed-bytes = ap (λ (l : Listing). l .bytes) (h .listing)

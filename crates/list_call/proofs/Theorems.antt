@@ -10,7 +10,7 @@ use Rattle.trace_line.specs.Written.{EventInRange}
 use Rattle.trace_line.proofs.EventRanges.{event-range}
 use Rattle.trace_text.specs.TraceText.{readTrace}
 use Rattle.trace_text.specs.Meaning.{AllWritten}
-use Rattle.trace_text.proofs.Accepted.{accepted-iff}
+use Rattle.trace_text.proofs.Accepted.{trace-accepted-iff}
 use Rattle.list_pairs.specs.List.{listOf}
 use Rattle.list_pairs.specs.Racing.{Racing, EventsInRange}
 use Rattle.list_pairs.proofs.Theorems.{listed-iff}
@@ -23,7 +23,7 @@ event-in-range (e ∷ es) w (suc k) l = event-in-range es (w .1) k (omega arith)
 
 -- what the events of an accepted trace do to a table is in range
 accepted-in-range : (s : List ℕ) (es : List Event) → readTrace s ≡ inr es → EventsInRange es
-accepted-in-range s es h k l = event-in-range es (accepted-iff s es .0 h .written) k l .effect
+accepted-in-range s es h k l = event-in-range es (trace-accepted-iff s es .0 h .written) k l .effect
 
 -- THE list of an accepted trace text: events i and j stand in it exactly if they race
 pub listed-exactly : (s : List ℕ) (es : List Event) → readTrace s ≡ inr es → (i j : ℕ) → List·Memᴰ (record { lower = i; higher = j }) (listOf es) ↔ Racing es i j

@@ -10,7 +10,7 @@ use Rattle.trace_events.specs.Events.{eventsOf}
 use Rattle.list_verdicts.specs.Kinds.{Kind, listed}
 use Rattle.list_pairs.specs.Types.{Event, Trace, Counts}
 use Rattle.list_pairs.specs.List.{listOf, count, pairBytes, countsOf, listingOf}
-use Rattle.list_pairs.specs.Inner.{countOf, Holds}
+use Rattle.list_pairs.specs.Inner.{countOf, HoldsList}
 use Rattle.list_pairs.proofs.PairLaws.{bytes-length, small-of}
 use Rattle.list_pairs.proofs.Sizes.{count-most}
 
@@ -40,7 +40,7 @@ module _ (es : List Event) (few : length es ≤ 256) (c : Counts) (e : c ≡ cou
   bytes-taken = bytes-length (listOf es) ∙ ap (λ (n : ℕ). 2 * n) (sym listed-is)
 
   pub made : (room bytes : List ℕ) → length room ≡ 131072 → bytes ≡ sets room 0 (pairBytes (listOf es))
-      → Holds es (record { counts = c; length = 2 * c .listed; bytes = bytes })
+      → HoldsList es (record { counts = c; length = 2 * c .listed; bytes = bytes })
   unfolding listingOf
   made room bytes l h =
       let taken : take (2 * c .listed) bytes ≡ pairBytes (listOf es) =

@@ -40,7 +40,7 @@ abbrev pub asListing : ListBuffer → Listing
 asListing b = record { counts = b .counts; bytes = take (b .length) (b .bytes) }
 
 -- the list of these events, no longer than 32,640 pairs are
-pub record Holds (es : List Event) (b : ListBuffer) : Type 0 where
+pub record HoldsList (es : List Event) (b : ListBuffer) : Type 0 where
   pub listing : asListing b ≡ listingOf es
   pub most : b .length ≤ 65280
   pub within : b .length ≤ length (b .bytes)

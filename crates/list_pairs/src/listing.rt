@@ -6,7 +6,7 @@ ghost use mathlib.Core.Path.{_≡_};
 ghost use Prim.Native.Nat.{_≤_};
 ghost use lib.ListN.{length};
 ghost use Rattle.trace_events.specs.Events.{eventsOf};
-ghost use Rattle.list_pairs.specs.Inner.{Holds};
+ghost use Rattle.list_pairs.specs.Inner.{HoldsList};
 
 // The four counts, and the list in the first `length` bytes.
 pub struct ListBuffer {
@@ -24,7 +24,7 @@ fn pair_room() -> [u8; 131072]
 
 pub fn list_of(t: Trace) -> ListBuffer
     requires { ⌜ t .len ≤ 256 ⌝ }
-    ensures { λ r. ⌜ Holds (eventsOf t) r ⌝ }
+    ensures { λ r. ⌜ HoldsList (eventsOf t) r ⌝ }
 {
     let rows = happens_before::happens_before(t);
     let mut bytes = pair_room();

@@ -8,15 +8,16 @@ use Rattle.text_numbers.specs.Inner.{Put}
 use Rattle.refusals.specs.Checks.{outcomeOf}
 use Rattle.refusals_text.specs.Report.{refusedText}
 use Rattle.trace_events.specs.Events.{eventsOf}
-use Rattle.trace_text.specs.TraceText.{readTrace, asTrace}
+use Rattle.trace_text.specs.TraceText.{readTrace}
+use Rattle.trace_text.specs.Inner.{asTrace}
 use Rattle.list_pairs.specs.List.{listingOf}
-use Rattle.list_pairs.specs.Inner.{Holds}
+use Rattle.list_pairs.specs.Inner.{HoldsList}
 use Rattle.list_report.specs.Types.{Event, Refusal, Outcome, ListBuffer, TraceRead}
 use Rattle.list_report.specs.Report.{raceLines, countsLine, listText, textOf, reportText}
 use Rattle.list_report.proofs.Sizes.{report-length}
 
 -- the lines of the list that stands in a buffer
-pub list-put : (es : List Event) (b : ListBuffer) → Holds es b → {n : ℕ} {old out : List ℕ}
+pub list-put : (es : List Event) (b : ListBuffer) → HoldsList es b → {n : ℕ} {old out : List ℕ}
     → Put (raceLines (take (b .length) (b .bytes)) ++ countsLine (b .counts)) 0 old n out → Put (listText (listingOf es)) 0 old n out
 unfolding listText
 list-put es b h {n} {old} {out} p = subst (λ (t : List ℕ). Put t 0 old n out) (ap listText (h .listing)) p

@@ -13,7 +13,7 @@ use Rattle.list_verdicts.specs.Kinds.{listed}
 use Rattle.list_pairs.proofs.Members.{pairs-in}
 use Rattle.refusals.specs.Checks.{Checked}
 use Rattle.trace_text.specs.TraceText.{readTrace}
-use Rattle.trace_text.proofs.Accepted.{accepted-iff}
+use Rattle.trace_text.proofs.Accepted.{trace-accepted-iff}
 use Rattle.list_pairs.proofs.Sizes.{count-most}
 use Rattle.refusals_text.proofs.Laws.{key-number-length, refusal-length, refused-length}
 use Rattle.list_report.specs.Types.{Event, Counts}
@@ -76,4 +76,4 @@ report-length s = go (readTrace s) refl
   where
     go : (x : Checked (List Event)) → readTrace s ≡ x → length (textOf s x) ≤ 425000
     go (inl r) h = omega (arith, refused-length s [] r, refusal-length r, refused-text s r h)
-    go (inr es) h = list-length es (accepted-iff s es .0 h .few)
+    go (inr es) h = list-length es (trace-accepted-iff s es .0 h .few)

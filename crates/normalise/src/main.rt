@@ -11,7 +11,7 @@ fn answer(tables: &[u8]) {
             io::write_all(STDOUT_FILENO, text_lines::front(&out, n));
         }
         NormalAnswer::Refused(e) => {
-            program_output::refused(b"", tables, e);
+            program_output::write_refused(b"", tables, e);
         }
     }
 }

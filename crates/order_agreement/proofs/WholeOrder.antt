@@ -14,7 +14,7 @@ use Rattle.commuting.proofs.Sound.{commutes-sound, agree-sym, idle-agree}
 use Rattle.order_meaning.specs.Types.{Operation}
 use Rattle.order_meaning.specs.Orders.{from, stands, IsOrderOf, Independent, Agrees}
 use Rattle.order_meaning.specs.Tables.{endTables, answers}
-use Rattle.flow_table.specs.Switches.{Tables, InOrder, switchOf, usesTable, stepOf, replyOf}
+use Rattle.flow_table.specs.Switches.{Tables, InOrder, switchOf, usesTable, stepOf, answerOf}
 use Rattle.list_verdicts.specs.Kinds.{paired, listed, isKind}
 use Rattle.order_meaning.proofs.OrderLaws.{order-agrees}
 
@@ -39,17 +39,17 @@ module _ (e f : Operation) (agree : eqb (switchOf e) (switchOf f) ≡ true → (
       at w false u true v = refl
       at w false u false v = refl
 
-  reply-first : replyOf e (stepOf f s) ≡ replyOf e s
-  unfolding replyOf stepOf
-  reply-first = at (eqb (switchOf e) (switchOf f)) refl
+  answer-first : answerOf e (stepOf f s) ≡ answerOf e s
+  unfolding answerOf stepOf
+  answer-first = at (eqb (switchOf e) (switchOf f)) refl
     where
       at : (b : Bool) → eqb (switchOf e) (switchOf f) ≡ b → answer (effectOf e) (cond b (after (effectOf f) (s (switchOf e))) (s (switchOf e))) ≡ answer (effectOf e) (s (switchOf e))
       at true u = agree u (s (switchOf e)) (g (switchOf e)) .first
       at false u = refl
 
-  reply-second : replyOf f (stepOf e s) ≡ replyOf f s
-  unfolding replyOf stepOf
-  reply-second = at (eqb (switchOf f) (switchOf e)) refl
+  answer-second : answerOf f (stepOf e s) ≡ answerOf f s
+  unfolding answerOf stepOf
+  answer-second = at (eqb (switchOf f) (switchOf e)) refl
     where
       at : (b : Bool) → eqb (switchOf f) (switchOf e) ≡ b → answer (effectOf f) (cond b (after (effectOf e) (s (switchOf f))) (s (switchOf f))) ≡ answer (effectOf f) (s (switchOf f))
       at true u = agree (eq-eqb (switchOf e) (switchOf f) (sym (eqb-true (switchOf f) (switchOf e) u))) (s (switchOf f)) (g (switchOf f)) .second
@@ -75,14 +75,14 @@ unlisted-agree e f o q h u t s =
 module _ (ev : ℕ → Operation) (n : ℕ) (hb : ℕ → ℕ → Bool) (o : List ℕ) (order : IsOrderOf n o)
     (keeps : (i j : ℕ) → i < j → j < n → hb i j ≡ true → stands i j o ≡ true)
     (in-turn : (i j : ℕ) → i < j → j < n → isKind listed (ev i) (ev j) (hb i j) ≡ true → stands i j o ≡ true) where
-  all-agree : (s : Tables) → InOrder s → Agrees (λ i. stepOf (ev i)) (λ i. replyOf (ev i)) o (from 0 n) s
-  all-agree = order-agrees (λ i. stepOf (ev i)) (λ i. replyOf (ev i)) InOrder (λ i. in-order (ev i)) n o order (λ i j. hb i j || isKind listed (ev i) (ev j) (hb i j)) free kept
+  all-agree : (s : Tables) → InOrder s → Agrees (λ i. stepOf (ev i)) (λ i. answerOf (ev i)) o (from 0 n) s
+  all-agree = order-agrees (λ i. stepOf (ev i)) (λ i. answerOf (ev i)) InOrder (λ i. in-order (ev i)) n o order (λ i j. hb i j || isKind listed (ev i) (ev j) (hb i j)) free kept
     where
-      free : (i j : ℕ) → i < j → j < n → (hb i j || isKind listed (ev i) (ev j) (hb i j)) ≡ false → Independent (λ i. stepOf (ev i)) (λ i. replyOf (ev i)) InOrder i j
+      free : (i j : ℕ) → i < j → j < n → (hb i j || isKind listed (ev i) (ev j) (hb i j)) ≡ false → Independent (λ i. stepOf (ev i)) (λ i. answerOf (ev i)) InOrder i j
       free i j l m h =
           let q = or-left (hb i j) (isKind listed (ev i) (ev j) (hb i j)) h in
           let agree = unlisted-agree (ev i) (ev j) (hb i j) q (or-right (hb i j) (isKind listed (ev i) (ev j) (hb i j)) h) in
-          record { states = λ s g. step-step (ev i) (ev j) agree s g; first = λ s g. reply-first (ev i) (ev j) agree s g; second = λ s g. reply-second (ev i) (ev j) agree s g }
+          record { states = λ s g. step-step (ev i) (ev j) agree s g; first = λ s g. answer-first (ev i) (ev j) agree s g; second = λ s g. answer-second (ev i) (ev j) agree s g }
 
       kept : (i j : ℕ) → i < j → j < n → (hb i j || isKind listed (ev i) (ev j) (hb i j)) ≡ true → stands i j o ≡ true
       kept i j l m h = or-cases (hb i j) (isKind listed (ev i) (ev j) (hb i j)) h (keeps i j l m) (in-turn i j l m)
@@ -93,4 +93,4 @@ module _ (ev : ℕ → Operation) (n : ℕ) (hb : ℕ → ℕ → Bool) (o : Lis
 
   -- each event has the same answer
   pub same-answers : (s : Tables) → InOrder s → (i : ℕ) → answers ev o s i ≡ answers ev (from 0 n) s i
-  same-answers s g i = all-agree s g .replies i
+  same-answers s g i = all-agree s g .answers i

@@ -1,6 +1,6 @@
 -- What the refusals of an order mean: no position is early exactly if the order keeps happens-before (`early-none-iff`), the position
 -- is the lowest (`early-iff`), an order is accepted exactly if none of its events is missing and it keeps happens-before
--- (`accepted-iff`), and the recorded order is accepted (`recorded-accepted`). Assumes nothing.
+-- (`order-accepted-iff`), and the recorded order is accepted (`recorded-accepted`). Assumes nothing.
 use mathlib.Core.Path.{_≡_, refl, sym, ap, _∙_}
 use mathlib.Core.Logic.{_↔_, inl, inr}
 use mathlib.Core.Bool.{Bool, true, false, not, _&&_, _||_, cond, false≢true, true≢false, or-true}
@@ -170,9 +170,9 @@ passed-parts true none e = (refl, refl)
 passed-parts true (some p) e = let z : _≡_ {A = ℕ} 0 1 = cc in absurd (omega arith)
 passed-parts false x e = let z : _≡_ {A = ℕ} 0 1 = cc in absurd (omega arith)
 
-pub accepted-iff : (es : List Event) (o : List ℕ) → (checkOrder es o ≡ inr tt) ↔ (IsOrderOf (length es) o × KeepsOrder es o)
+pub order-accepted-iff : (es : List Event) (o : List ℕ) → (checkOrder es o ≡ inr tt) ↔ (IsOrderOf (length es) o × KeepsOrder es o)
 unfolding checkOrder
-accepted-iff es o = (
+order-accepted-iff es o = (
   λ h. let p = passed-parts (complete (length es) o) (firstEarly es o) h in
       let order = complete-iff (length es) o .0 (p .0) in
       (order, early-none-iff es o order .0 (p .1)),
@@ -213,4 +213,4 @@ recorded-keeps es i j c = let l = chain-later es c in stands-from i j 0 (length 
 
 -- the recorded order is never refused
 pub recorded-accepted : (es : List Event) → checkOrder es (from 0 (length es)) ≡ inr tt
-recorded-accepted es = accepted-iff es (from 0 (length es)) .1 (recorded-order (length es), recorded-keeps es)
+recorded-accepted es = order-accepted-iff es (from 0 (length es)) .1 (recorded-order (length es), recorded-keeps es)

@@ -1,4 +1,4 @@
--- An order that has every dependent pair in recorded order leaves what the recorded order leaves, with the same replies: sorting
+-- An order that has every dependent pair in recorded order leaves what the recorded order leaves, with the same answers: sorting
 -- the order by insertion moves each event past independent ones only. Assumes nothing.
 use mathlib.Core.Path.{_≡_, refl, sym, _∙_, ap}
 use mathlib.Core.Bool.{Bool, true, false, _&&_, _||_, cond, false≢true, or-true}
@@ -9,7 +9,7 @@ use native.Mathlib.Omega.{arith}
 use lib.Dec.{eqb, ltb}
 use lib.ListN.{length}
 use borrow.Author.Tests.{eqb-true, eq-eqb, ne-eqb, ltb-true, ltb-false, lt-ltb, le-ltb}
-use Rattle.order_meaning.specs.Orders.{run, replyIn, from, stands, IsOrderOf, Independent, Agrees}
+use Rattle.order_meaning.specs.Orders.{run, answerIn, from, stands, IsOrderOf, Independent, Agrees}
 use Rattle.basics.specs.Searches.{has}
 use Rattle.basics.proofs.Booleans.{split, or-cases, cond-swap}
 
@@ -39,39 +39,39 @@ all-sort : (P : ℕ → Type 0) (o : List ℕ) → All P o → All P (sort o)
 all-sort P [] k = tt
 all-sort P (x ∷ o) k = all-arrange P x (sort o) (k .0) (all-sort P o (k .1))
 
-module _ {S : Type 0} {A : Type 0} (step : ℕ → S → S) (reply : ℕ → S → A) (Good : S → Type 0) (good : (i : ℕ) (s : S) → Good s → Good (step i s)) where
+module _ {S : Type 0} {A : Type 0} (step : ℕ → S → S) (answer : ℕ → S → A) (Good : S → Type 0) (good : (i : ℕ) (s : S) → Good s → Good (step i s)) where
   -- an event stands before smaller ones only if it is independent of them
   abbrev pub Kept : List ℕ → Type 0
   Kept [] = Unit {0}
-  Kept (x ∷ o) = All (λ y. y < x → Independent step reply Good y x) o × Kept o
+  Kept (x ∷ o) = All (λ y. y < x → Independent step answer Good y x) o × Kept o
 
-  agrees-trans : {o p q : List ℕ} {s : S} → Agrees step reply o p s → Agrees step reply p q s → Agrees step reply o q s
-  agrees-trans g h = record { states = g .states ∙ h .states; replies = λ i. g .replies i ∙ h .replies i }
+  agrees-trans : {o p q : List ℕ} {s : S} → Agrees step answer o p s → Agrees step answer p q s → Agrees step answer o q s
+  agrees-trans g h = record { states = g .states ∙ h .states; answers = λ i. g .answers i ∙ h .answers i }
 
-  agrees-cons : (x : ℕ) {o p : List ℕ} {s : S} → Agrees step reply o p (step x s) → Agrees step reply (x ∷ o) (x ∷ p) s
-  agrees-cons x {s = s} g = record { states = g .states; replies = λ i. ap (λ r. cond (eqb i x) (some (reply x s)) r) (g .replies i) }
+  agrees-cons : (x : ℕ) {o p : List ℕ} {s : S} → Agrees step answer o p (step x s) → Agrees step answer (x ∷ o) (x ∷ p) s
+  agrees-cons x {s = s} g = record { states = g .states; answers = λ i. ap (λ r. cond (eqb i x) (some (answer x s)) r) (g .answers i) }
 
   -- the first two change places
-  swapped : (y x : ℕ) (l : List ℕ) (s : S) → Good s → y < x → Independent step reply Good y x → Agrees step reply (x ∷ y ∷ l) (y ∷ x ∷ l) s
+  swapped : (y x : ℕ) (l : List ℕ) (s : S) → Good s → y < x → Independent step answer Good y x → Agrees step answer (x ∷ y ∷ l) (y ∷ x ∷ l) s
   swapped y x l s g h d = record {
     states = ap (run step l) (sym (d .states s g));
-    replies = λ i. rw (d .first s g, d .second s g, d .states s g)
-        (cond-swap (eqb i x) (eqb i y) (some (reply x s)) (some (reply y s)) (replyIn step reply l (step y (step x s)) i)
+    answers = λ i. rw (d .first s g, d .second s g, d .states s g)
+        (cond-swap (eqb i x) (eqb i y) (some (answer x s)) (some (answer y s)) (answerIn step answer l (step y (step x s)) i)
         (λ u v. let p = eqb-true i x u in let q = eqb-true i y v in omega arith));
   }
 
-  moved : (x : ℕ) (l : List ℕ) (s : S) → Good s → All (λ y. y < x → Independent step reply Good y x) l → Agrees step reply (x ∷ l) (arrange x l) s
-  moved x [] s g k = record { states = refl; replies = λ i. refl }
+  moved : (x : ℕ) (l : List ℕ) (s : S) → Good s → All (λ y. y < x → Independent step answer Good y x) l → Agrees step answer (x ∷ l) (arrange x l) s
+  moved x [] s g k = record { states = refl; answers = λ i. refl }
   moved x (y ∷ l) s g k = go (ltb y x) refl (moved x l (step y s) (good y s g) (k .1))
     where
-      go : (b : Bool) → ltb y x ≡ b → Agrees step reply (x ∷ l) (arrange x l) (step y s) → Agrees step reply (x ∷ y ∷ l) (cond b (y ∷ arrange x l) (x ∷ y ∷ l)) s
+      go : (b : Bool) → ltb y x ≡ b → Agrees step answer (x ∷ l) (arrange x l) (step y s) → Agrees step answer (x ∷ y ∷ l) (cond b (y ∷ arrange x l) (x ∷ y ∷ l)) s
       go true e ih = agrees-trans (swapped y x l s g (ltb-true y x e) (k .0 (ltb-true y x e))) (agrees-cons y ih)
-      go false e ih = record { states = refl; replies = λ i. refl }
+      go false e ih = record { states = refl; answers = λ i. refl }
 
-  sorted-agrees : (o : List ℕ) → Kept o → (s : S) → Good s → Agrees step reply o (sort o) s
-  sorted-agrees [] k s g = record { states = refl; replies = λ i. refl }
+  sorted-agrees : (o : List ℕ) → Kept o → (s : S) → Good s → Agrees step answer o (sort o) s
+  sorted-agrees [] k s g = record { states = refl; answers = λ i. refl }
   sorted-agrees (x ∷ o) k s g = agrees-trans (agrees-cons x (sorted-agrees o (k .1) (step x s) (good x s g)))
-      (moved x (sort o) s g (all-sort (λ y. y < x → Independent step reply Good y x) o (k .0)))
+      (moved x (sort o) s g (all-sort (λ y. y < x → Independent step answer Good y x) o (k .0)))
 
 -- an order of 0 .. n-1, sorted, is the recorded order
 arrange-comm : (x y : ℕ) (l : List ℕ) → arrange x (arrange y l) ≡ arrange y (arrange x l)
@@ -236,22 +236,22 @@ all-has : (P : ℕ → Type 0) (o : List ℕ) → ((y : ℕ) → has y o ≡ tru
 all-has P [] h = tt
 all-has P (x ∷ o) h = (h x (rw (eq-eqb x x refl) refl), all-has P o (λ y e. h y (rw e (or-true (eqb y x)))))
 
-module _ {S : Type 0} {A : Type 0} (step : ℕ → S → S) (reply : ℕ → S → A) (Good : S → Type 0) (good : (i : ℕ) (s : S) → Good s → Good (step i s)) where
-  kept-of : (o : List ℕ) → ((y x : ℕ) → y < x → stands x y o ≡ true → Independent step reply Good y x) → Kept step reply Good good o
+module _ {S : Type 0} {A : Type 0} (step : ℕ → S → S) (answer : ℕ → S → A) (Good : S → Type 0) (good : (i : ℕ) (s : S) → Good s → Good (step i s)) where
+  kept-of : (o : List ℕ) → ((y x : ℕ) → y < x → stands x y o ≡ true → Independent step answer Good y x) → Kept step answer Good good o
   kept-of [] h = tt
   kept-of (x ∷ o) h = (
-    all-has (λ y. y < x → Independent step reply Good y x) o (λ y e l. h y x l (rw (eq-eqb x x refl, e) refl)),
+    all-has (λ y. y < x → Independent step answer Good y x) o (λ y e l. h y x l (rw (eq-eqb x x refl, e) refl)),
     kept-of o (λ y z l e. h y z l (rw e (or-true (eqb z x && has y o)))),
   )
 
   -- an order that has each dependent pair in recorded order agrees with the recorded order
   pub order-agrees : (n : ℕ) (o : List ℕ) → IsOrderOf n o → (dependent : ℕ → ℕ → Bool)
-      → ((i j : ℕ) → i < j → j < n → dependent i j ≡ false → Independent step reply Good i j)
+      → ((i j : ℕ) → i < j → j < n → dependent i j ≡ false → Independent step answer Good i j)
       → ((i j : ℕ) → i < j → j < n → dependent i j ≡ true → stands i j o ≡ true)
-      → (s : S) → Good s → Agrees step reply o (from 0 n) s
-  order-agrees n o p dependent free kept s g = rw (← sort-order n o p) (sorted-agrees step reply Good good o (kept-of o between) s g)
+      → (s : S) → Good s → Agrees step answer o (from 0 n) s
+  order-agrees n o p dependent free kept s g = rw (← sort-order n o p) (sorted-agrees step answer Good good o (kept-of o between) s g)
     where
-      between : (y x : ℕ) → y < x → stands x y o ≡ true → Independent step reply Good y x
+      between : (y x : ℕ) → y < x → stands x y o ≡ true → Independent step answer Good y x
       between y x l e =
           let b = in-range p x (stands-has x y o e .0) in
           split (dependent y x)

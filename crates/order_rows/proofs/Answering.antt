@@ -14,7 +14,7 @@ use Rattle.order_meaning.specs.Orders.{IsOrderOf}
 use Rattle.basics.specs.Searches.{has}
 use Rattle.order_meaning.proofs.OrderLaws.{in-range}
 use Rattle.rows.specs.Rows.{tableOf}
-use Rattle.rows_step.specs.Stepping.{stepRows, tableReply, replyRows}
+use Rattle.rows_step.specs.Stepping.{stepRows, tableAnswer, answerRows}
 use Rattle.trace_events.specs.Events.{noEvent}
 use Rattle.order_rows.specs.Types.{Operation, Answer, Event, Row, TableOperation}
 use Rattle.order_rows.specs.Runs.{operationAt, keptIn, answersIn}
@@ -30,18 +30,18 @@ packet-answers t = at (highest t) (atPriority (highest t) t)
     at n [] = refl
     at n (e ∷ s) = refl
 
-reply-silent : (o : Operation) (rs : List Row) → isSilent (replyRows o rs) ≡ not (hasAnswer o)
-unfolding replyRows tableReply
-reply-silent Operation.Other rs = refl
-reply-silent (Operation.Barrier w) rs = refl
-reply-silent (Operation.Message w) rs = refl
-reply-silent (Operation.Table w (TableOperation.Packet p)) rs = packet-answers (fitting p (tableOf w rs))
-reply-silent (Operation.Table w (TableOperation.Add e)) rs = refl
-reply-silent (Operation.Table w (TableOperation.AddChecked e)) rs = refl
-reply-silent (Operation.Table w (TableOperation.ModifyStrict e)) rs = refl
-reply-silent (Operation.Table w (TableOperation.Modify e)) rs = refl
-reply-silent (Operation.Table w (TableOperation.DeleteStrict k)) rs = refl
-reply-silent (Operation.Table w (TableOperation.Delete m)) rs = refl
+answer-silent : (o : Operation) (rs : List Row) → isSilent (answerRows o rs) ≡ not (hasAnswer o)
+unfolding answerRows tableAnswer
+answer-silent Operation.Other rs = refl
+answer-silent (Operation.Barrier w) rs = refl
+answer-silent (Operation.Message w) rs = refl
+answer-silent (Operation.Table w (TableOperation.Packet p)) rs = packet-answers (fitting p (tableOf w rs))
+answer-silent (Operation.Table w (TableOperation.Add e)) rs = refl
+answer-silent (Operation.Table w (TableOperation.AddChecked e)) rs = refl
+answer-silent (Operation.Table w (TableOperation.ModifyStrict e)) rs = refl
+answer-silent (Operation.Table w (TableOperation.Modify e)) rs = refl
+answer-silent (Operation.Table w (TableOperation.DeleteStrict k)) rs = refl
+answer-silent (Operation.Table w (TableOperation.Delete m)) rs = refl
 
 module _ (es : List Event) where
   kept-silent : (i : ℕ) (o : List ℕ) (rs : List Row) (a : Answer) → has i o ≡ true → isSilent (keptIn es i o rs a) ≡ not (hasAnswer (operationAt es i))
@@ -49,14 +49,14 @@ module _ (es : List Event) where
   kept-silent i [] rs a h = absurd (false≢true h)
   kept-silent i (j ∷ o) rs a h =
       split (has i o)
-      (λ e. kept-silent i o (stepRows (operationAt es j) rs) (cond (eqb i j) (replyRows (operationAt es j) rs) a) e)
+      (λ e. kept-silent i o (stepRows (operationAt es j) rs) (cond (eqb i j) (answerRows (operationAt es j) rs) a) e)
       (λ e. last (eqb i j) refl h e)
     where
       last : (b : Bool) → eqb i j ≡ b → (b || has i o) ≡ true → has i o ≡ false
-          → isSilent (keptIn es i o (stepRows (operationAt es j) rs) (cond b (replyRows (operationAt es j) rs) a)) ≡ not (hasAnswer (operationAt es i))
+          → isSilent (keptIn es i o (stepRows (operationAt es j) rs) (cond b (answerRows (operationAt es j) rs) a)) ≡ not (hasAnswer (operationAt es i))
       last true u k e =
-          ap isSilent (kept-absent es i o (stepRows (operationAt es j) rs) (replyRows (operationAt es j) rs) e)
-          ∙ reply-silent (operationAt es j) rs ∙ ap (λ n. not (hasAnswer (operationAt es n))) (sym (eqb-true i j u))
+          ap isSilent (kept-absent es i o (stepRows (operationAt es j) rs) (answerRows (operationAt es j) rs) e)
+          ∙ answer-silent (operationAt es j) rs ∙ ap (λ n. not (hasAnswer (operationAt es n))) (sym (eqb-true i j u))
       last false u k e = absurd (false≢true (sym e ∙ k))
 
   -- in an order of the events, each event that is a `pkt` or `addc` has an answer line, and no other has

@@ -9,14 +9,14 @@ use native.Mathlib.Omega.{arith}
 use lib.Dec.{eqb}
 use lib.ListN.{length}
 use Rattle.basics.proofs.Booleans.{or-left, or-right}
-use Rattle.order_meaning.specs.Orders.{run, replyIn, stands, IsOrderOf}
+use Rattle.order_meaning.specs.Orders.{run, answerIn, stands, IsOrderOf}
 use Rattle.basics.specs.Searches.{has}
 use Rattle.order_meaning.specs.Tables.{endTables, answers}
-use Rattle.flow_table.specs.Switches.{stepOf, replyOf}
+use Rattle.flow_table.specs.Switches.{stepOf, answerOf}
 use Rattle.order_meaning.proofs.OrderLaws.{not-twice}
 use Rattle.rows.specs.Rows.{SortedRows, tableOf, tablesOf}
-use Rattle.rows_step.specs.Stepping.{stepRows, replyRows}
-use Rattle.rows_step.proofs.Steps.{step-tables, reply-tables, sorted-step, length-step}
+use Rattle.rows_step.specs.Stepping.{stepRows, answerRows}
+use Rattle.rows_step.proofs.Steps.{step-tables, answer-tables, sorted-step, length-step}
 use Rattle.order_rows.specs.Types.{Operation, Answer, Event, Row}
 use Rattle.order_rows.specs.Runs.{operationAt, runRows, keptIn, answersIn, givenOr}
 
@@ -28,12 +28,12 @@ module _ (ev : ℕ → Operation) where
   tables-by [] rs s = refl
   tables-by (i ∷ o) rs s = tables-by o (stepRows (ev i) rs) (sorted-step (ev i) rs s) ∙ ap (endTables ev o) (stepped i rs s)
 
-  replies-by : (o : List ℕ) (rs : List Row) → SortedRows rs → (i : ℕ)
-      → replyIn (λ k. stepRows (ev k)) (λ k. replyRows (ev k)) o rs i ≡ answers ev o (tablesOf rs) i
-  replies-by [] rs s i = refl
-  replies-by (j ∷ o) rs s i =
-      ap (λ a. cond (eqb i j) (some a) (replyIn (λ k. stepRows (ev k)) (λ k. replyRows (ev k)) o (stepRows (ev j) rs) i)) (reply-tables (ev j) rs)
-      ∙ ap (λ r. cond (eqb i j) (some (replyOf (ev j) (tablesOf rs))) r) (replies-by o (stepRows (ev j) rs) (sorted-step (ev j) rs s) i ∙ ap (λ t. answers ev o t i) (stepped j rs s))
+  answers-by : (o : List ℕ) (rs : List Row) → SortedRows rs → (i : ℕ)
+      → answerIn (λ k. stepRows (ev k)) (λ k. answerRows (ev k)) o rs i ≡ answers ev o (tablesOf rs) i
+  answers-by [] rs s i = refl
+  answers-by (j ∷ o) rs s i =
+      ap (λ a. cond (eqb i j) (some a) (answerIn (λ k. stepRows (ev k)) (λ k. answerRows (ev k)) o (stepRows (ev j) rs) i)) (answer-tables (ev j) rs)
+      ∙ ap (λ r. cond (eqb i j) (some (answerOf (ev j) (tablesOf rs))) r) (answers-by o (stepRows (ev j) rs) (sorted-step (ev j) rs s) i ∙ ap (λ t. answers ev o t i) (stepped j rs s))
 
 module _ (es : List Event) where
   -- switch by switch, the end tables
@@ -60,22 +60,22 @@ module _ (es : List Event) where
   kept-absent i (j ∷ o) rs a h =
       rw (or-left (eqb i j) (has i o) h) (kept-absent i o (stepRows (operationAt es j) rs) a (or-right (eqb i j) (has i o) h))
 
-  -- an event that stands at most once keeps its reply
-  kept-reply : (i : ℕ) (o : List ℕ) (rs : List Row) (a : Answer) → stands i i o ≡ false
-      → keptIn es i o rs a ≡ givenOr a (replyIn (λ k. stepRows (operationAt es k)) (λ k. replyRows (operationAt es k)) o rs i)
+  -- an event that stands at most once keeps its answer
+  kept-answer : (i : ℕ) (o : List ℕ) (rs : List Row) (a : Answer) → stands i i o ≡ false
+      → keptIn es i o rs a ≡ givenOr a (answerIn (λ k. stepRows (operationAt es k)) (λ k. answerRows (operationAt es k)) o rs i)
   unfolding keptIn
-  kept-reply i [] rs a h = refl
-  kept-reply i (j ∷ o) rs a h = go (eqb i j) h (kept-reply i o (stepRows (operationAt es j) rs) a)
+  kept-answer i [] rs a h = refl
+  kept-answer i (j ∷ o) rs a h = go (eqb i j) h (kept-answer i o (stepRows (operationAt es j) rs) a)
     where
       go : (b : Bool) → ((b && has i o) || stands i i o) ≡ false
-          → (stands i i o ≡ false → keptIn es i o (stepRows (operationAt es j) rs) a ≡ givenOr a (replyIn (λ k. stepRows (operationAt es k)) (λ k. replyRows (operationAt es k)) o (stepRows (operationAt es j) rs) i))
-          → keptIn es i o (stepRows (operationAt es j) rs) (cond b (replyRows (operationAt es j) rs) a)
-          ≡ givenOr a (cond b (some (replyRows (operationAt es j) rs)) (replyIn (λ k. stepRows (operationAt es k)) (λ k. replyRows (operationAt es k)) o (stepRows (operationAt es j) rs) i))
-      go true k ih = kept-absent i o (stepRows (operationAt es j) rs) (replyRows (operationAt es j) rs) (or-left (has i o) (stands i i o) k)
+          → (stands i i o ≡ false → keptIn es i o (stepRows (operationAt es j) rs) a ≡ givenOr a (answerIn (λ k. stepRows (operationAt es k)) (λ k. answerRows (operationAt es k)) o (stepRows (operationAt es j) rs) i))
+          → keptIn es i o (stepRows (operationAt es j) rs) (cond b (answerRows (operationAt es j) rs) a)
+          ≡ givenOr a (cond b (some (answerRows (operationAt es j) rs)) (answerIn (λ k. stepRows (operationAt es k)) (λ k. answerRows (operationAt es k)) o (stepRows (operationAt es j) rs) i))
+      go true k ih = kept-absent i o (stepRows (operationAt es j) rs) (answerRows (operationAt es j) rs) (or-left (has i o) (stands i i o) k)
       go false k ih = ih k
 
   -- the answers are those of the tables
   pub run-answers : (n : ℕ) (o : List ℕ) → IsOrderOf n o → (rs : List Row) → SortedRows rs → (i : ℕ)
       → answersIn es o rs i ≡ givenOr Answer.Silent (answers (operationAt es) o (tablesOf rs) i)
   unfolding answersIn
-  run-answers n o p rs s i = kept-reply i o rs Answer.Silent (not-twice p i) ∙ ap (givenOr Answer.Silent) (replies-by (operationAt es) o rs s i)
+  run-answers n o p rs s i = kept-answer i o rs Answer.Silent (not-twice p i) ∙ ap (givenOr Answer.Silent) (answers-by (operationAt es) o rs s i)

@@ -5,7 +5,7 @@ use mathlib.Core.List.{List, [], _∷_}
 use Prim.Native.Nat.{ℕ}
 use lib.Dec.{eqb}
 use Rattle.order_meaning.specs.Orders.{run}
-use Rattle.rows_step.specs.Stepping.{stepRows, replyRows}
+use Rattle.rows_step.specs.Stepping.{stepRows, answerRows}
 use Rattle.trace_events.specs.Events.{eventAt}
 use Rattle.order_rows.specs.Types.{Operation, Answer, Event, Row}
 
@@ -20,7 +20,7 @@ runRows es o rs = run (λ i. stepRows (operationAt es i)) o rs
 -- what is kept under number i after the order, if a was kept before it
 unfoldable pub keptIn : List Event → ℕ → List ℕ → List Row → Answer → Answer
 keptIn es i [] rs a = a
-keptIn es i (j ∷ o) rs a = keptIn es i o (stepRows (operationAt es j) rs) (cond (eqb i j) (replyRows (operationAt es j) rs) a)
+keptIn es i (j ∷ o) rs a = keptIn es i o (stepRows (operationAt es j) rs) (cond (eqb i j) (answerRows (operationAt es j) rs) a)
 
 -- the answer of event i, kept under its number; silent where it does not stand in the order
 unfoldable pub answersIn : List Event → List ℕ → List Row → ℕ → Answer

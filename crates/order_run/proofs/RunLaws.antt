@@ -11,7 +11,7 @@ use lib.Seq.{drop-cons, getD-set-same, getD-set-other}
 use borrow.Author.Tests.{eqb-true, eqb-false, ltb-true, ltb-false}
 use Rattle.basics.proofs.Booleans.{split}
 use Rattle.rows.specs.Rows.{SortedRows}
-use Rattle.rows_step.specs.Stepping.{stepRows, replyRows}
+use Rattle.rows_step.specs.Stepping.{stepRows, answerRows}
 use Rattle.rows_step.proofs.Steps.{sorted-step}
 use Rattle.trace_events.specs.Events.{eventsOf, noEvent}
 use Rattle.trace_events.proofs.TraceLaws.{event-at}
@@ -64,7 +64,7 @@ module _ (es : List Event) (o : List ℕ) (len : ℕ) (l : List Row) (ks : List 
   module _ (start : List Row) (len₀ p : ℕ) (r : Runs es o start len₀ p ks len l) where
     -- one event more, by the rows that it leaves and its answer
     pub run-turn : p < length o → getD o p 0 < 256 → (len₁ : ℕ) (l₁ : List Row) (a : Answer) → len₁ ≤ len + 1 → length l₁ ≡ 512
-        → take len₁ l₁ ≡ stepRows (operationAt es (getD o p 0)) (take len l) → a ≡ replyRows (operationAt es (getD o p 0)) (take len l)
+        → take len₁ l₁ ≡ stepRows (operationAt es (getD o p 0)) (take len l) → a ≡ answerRows (operationAt es (getD o p 0)) (take len l)
         → Runs es o start len₀ (p + 1) (set ks (getD o p 0) (kept a)) len₁ l₁
     unfolding runRows keptIn
     run-turn h e len₁ l₁ a g s f q = record {

@@ -16,7 +16,7 @@ ghost use Prim.Native.Nat.{_≤_};
 ghost use lib.ListN.{length};
 ghost use Rattle.rows.specs.Rows.{rowsOf, SortedRows};
 ghost use Rattle.trace_events.specs.Events.{eventsOf};
-ghost use Rattle.order_run.specs.Running.{RunsTo};
+ghost use Rattle.order_run.specs.Inner.{RunsTo};
 
 // The rows that an order leaves, and the answer of each event under its number.
 pub struct Ran {

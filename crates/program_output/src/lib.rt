@@ -13,7 +13,7 @@ pub fn end_line() {
 }
 
 // A refusal, with the refused line where there is one: at most 65,536 bytes of a line and 36 before it.
-pub fn refused<'a>(trace: &'a [u8], tables: &'a [u8], refusal: Refusal) {
+pub fn write_refused<'a>(trace: &'a [u8], tables: &'a [u8], refusal: Refusal) {
     let mut text = [0u8; 65600];
     let n = refusals_text::refused(&mut text, trace, tables, refusal);
     io::write_all(STDOUT_FILENO, text_lines::front(&text, n));

@@ -55,3 +55,8 @@ outcomeOf (Outcome.Refused r) a = inl r
 abbrev pub refuseNone : {A : Type 0} → Option A → Refusal → Checked A
 refuseNone none r = inl r
 refuseNone (some a) r = inr a
+
+-- the first of two outcomes that is a refusal
+abbrev pub firstOf : Outcome → Outcome → Outcome
+firstOf (Outcome.Refused r) other = Outcome.Refused r
+firstOf Outcome.Accepted other = other

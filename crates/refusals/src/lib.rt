@@ -9,4 +9,5 @@ pub use refusal::Outcome;
 pub use refusal::Refusal;
 pub use refusal::Returned;
 pub use refusal::Source;
+pub use refusal::first_of;
 pub use refused::Refused;

@@ -1,5 +1,6 @@
 // Document 01's table of refusals: each with its place, a line, a position or the bytes needed.
 ghost use mathlib.Core.Path.{_≡_};
+ghost use Rattle.refusals.specs.Checks.{firstOf};
 ghost use Rattle.refusals.specs.Refusals.{refusalRow, returned};
 
 pub enum Refusal {
@@ -29,6 +30,16 @@ pub enum Refusal {
 pub enum Outcome {
     Accepted,
     Refused(Refusal),
+}
+
+// The first of two outcomes that is a refusal.
+pub fn first_of(a: Outcome, b: Outcome) -> Outcome
+    ensures { λ r. ⌜ r ≡ firstOf a b ⌝ }
+{
+    match a {
+        Outcome::Refused(_) => a,
+        Outcome::Accepted => b,
+    }
 }
 
 // The text that the place of a refusal is a line of.

@@ -10,7 +10,7 @@ use Rattle.trace_text.specs.TraceText.{readTrace}
 use Rattle.tables_text.specs.TableText.{readTables, HoldSame}
 use Rattle.tables_text.proofs.Accepted.{accepted-sorted}
 use Rattle.order_check.specs.Schedule.{checkOrder}
-use Rattle.order_check.proofs.Accepted.{accepted-iff, recorded-accepted}
+use Rattle.order_check.proofs.Accepted.{order-accepted-iff, recorded-accepted}
 use Rattle.order_rows.specs.Runs.{operationAt}
 use Rattle.replay_agreement.specs.Types.{Event, Row}
 use Rattle.replay_agreement.specs.Allowed.{recorded, Allowed}
@@ -25,7 +25,7 @@ use Rattle.replay_agreement.proofs.Buffers.{long-enough, enough, writes
 
 -- an allowed order is never refused by 21 or 22, nor is the recorded order, which is allowed
 pub allowed-accepted : (es : List Event) (o : List ℕ) → Allowed es o → checkOrder es o ≡ inr tt
-allowed-accepted es o a = accepted-iff es o .1 (a .order, a .keeps)
+allowed-accepted es o a = order-accepted-iff es o .1 (a .order, a .keeps)
 
 pub recorded-is-allowed : (es : List Event) → Allowed es (recorded es)
 recorded-is-allowed = recorded-allowed

@@ -12,7 +12,7 @@ use Rattle.text_lines.proofs.Lines.{lines-count}
 use Rattle.order_meaning.specs.Orders.{from}
 use Rattle.list_pairs.proofs.Theorems.{list-members}
 use Rattle.trace_text.specs.TraceText.{readTrace}
-use Rattle.trace_text.proofs.Accepted.{accepted-iff, lines-length}
+use Rattle.trace_text.proofs.Accepted.{trace-accepted-iff, lines-length}
 use Rattle.order_check.proofs.Accepted.{stands-from, recorded-order, recorded-keeps}
 use Rattle.replay_agreement.specs.Types.{Event}
 use Rattle.replay_agreement.specs.Allowed.{recorded, Allowed}
@@ -34,7 +34,7 @@ place-in b (suc n) (suc i) h = omega (arith, place-in (suc b) n i (omega arith))
 pub recorded-bytes : (s : List ℕ) (es : List Event) → readTrace s ≡ inr es → (r : List ℕ) → length r ≡ 256 → ((i : ℕ) → i < 256 → getD r i 0 ≡ i)
     → take (newlines s) r ≡ recorded es
 recorded-bytes s es e r size each =
-    let t = accepted-iff s es .0 e in
+    let t = trace-accepted-iff s es .0 e in
     let few = t .few in
     let count : newlines s ≡ length es = sym (lines-count s (t .ended)) ∙ ap length (t .printed) ∙ lines-length 0 es in
     let long : length (take (newlines s) r) ≡ length es = length-take-le (newlines s) r (omega arith) ∙ count in

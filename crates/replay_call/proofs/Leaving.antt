@@ -13,10 +13,10 @@ use Rattle.tables_text.proofs.Accepted.{accepted-sorted}
 use Rattle.inputs.specs.Inputs.{readBoth}
 use Rattle.inputs.proofs.Both.{both-accepted, both-then}
 use Rattle.order_check.specs.Schedule.{checkOrder}
-use Rattle.order_check.proofs.Accepted.{accepted-iff}
+use Rattle.order_check.proofs.Accepted.{order-accepted-iff}
 use Rattle.replay_answers.specs.Inner.{keptAt}
 use Rattle.order_rows.specs.Runs.{runRows}
-use Rattle.order_run.specs.Running.{RunsTo}
+use Rattle.order_run.specs.Inner.{RunsTo}
 use Rattle.order_rows.proofs.EndTables.{run-length}
 use Rattle.replay_texts.specs.Writing.{bothTexts, replayAnswer, tablesOut, answersOut}
 use Rattle.replay_texts.specs.Inner.{fittingBoth, Leaves}
@@ -58,7 +58,7 @@ unfolding eventsOf
 events-few t h = omega (arith, length-take (t .len) (t .events))
 
 pub order-short : (es : List Event) (o : List ℕ) → length es ≤ 256 → inr tt ≡ checkOrder es o → length o ≤ 256
-order-short es o h p = omega (arith, accepted-iff es o .0 (sym p) .0 .size)
+order-short es o h p = omega (arith, order-accepted-iff es o .0 (sym p) .0 .size)
 
 -- ---- the texts refused, or what follows
 module _ (s t o : List ℕ) (a b : ℕ) where

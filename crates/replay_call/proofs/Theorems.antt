@@ -11,11 +11,11 @@ use borrow.Author.Tests.{le-ltb}
 use Rattle.order_meaning.specs.Tables.{endTables, answers}
 use Rattle.rows.specs.Rows.{tableOf, tablesOf}
 use Rattle.trace_text.specs.TraceText.{readTrace}
-use Rattle.trace_text.proofs.Accepted.{accepted-iff as trace-iff}
+use Rattle.trace_text.proofs.Accepted.{trace-accepted-iff}
 use Rattle.tables_text.specs.TableText.{readTables}
 use Rattle.tables_text.proofs.Accepted.{accepted-sorted, accepted-length}
 use Rattle.order_check.specs.Schedule.{checkOrder}
-use Rattle.order_check.proofs.Accepted.{accepted-iff}
+use Rattle.order_check.proofs.Accepted.{order-accepted-iff}
 use Rattle.order_rows.specs.Types.{Answer}
 use Rattle.order_rows.specs.Runs.{operationAt, runRows, answersIn, givenOr}
 use Rattle.order_rows.proofs.EndTables.{run-tables, run-answers, run-length}
@@ -31,13 +31,13 @@ module _ (s t o : List ℕ) (es : List Event) (rs : List Row) (trace : readTrace
       × ((i : ℕ) → answersIn es o rs i ≡ givenOr Answer.Silent (answers (operationAt es) o (tablesOf rs) i))
   rows-are-tables =
       let sorted = accepted-sorted t rs tables in
-      (run-tables es o rs sorted, run-answers es (length es) o (accepted-iff es o .0 order .0) rs sorted)
+      (run-tables es o rs sorted, run-answers es (length es) o (order-accepted-iff es o .0 order .0) rs sorted)
 
   -- at most 512 entries are held at the end
   pub never-41 : length (runRows es o rs) ≤ 512
   never-41 =
-      let few = trace-iff s es .0 trace .few in
-      let size = accepted-iff es o .0 order .0 .size in
+      let few = trace-accepted-iff s es .0 trace .few in
+      let size = order-accepted-iff es o .0 order .0 .size in
       omega (arith, run-length es o rs, accepted-length t rs tables)
 
   -- 32, 33, or both texts

@@ -4,7 +4,6 @@
 use call_answers::ReplayAnswer;
 use libc::STDOUT_FILENO;
 use program_input::Input;
-ghost use Rattle.io.specs.Counts.{Counts};
 
 // An answer: both texts, or the refusal.
 fn print_answer<'a>(
@@ -20,7 +19,7 @@ fn print_answer<'a>(
             io::write_all(STDOUT_FILENO, text_lines::front(answers, m));
         }
         ReplayAnswer::Refused(e) => {
-            program_output::refused(trace, tables, e);
+            program_output::write_refused(trace, tables, e);
         }
     }
 }

@@ -30,7 +30,7 @@ fn print_replay<'a>(trace: &'a [u8], tables: &'a [u8], order: &[u8]) {
             io::write_all(STDOUT_FILENO, text_lines::front(&answers, m));
         }
         ReplayAnswer::Refused(e) => {
-            program_output::refused(trace, tables, e);
+            program_output::write_refused(trace, tables, e);
         }
     }
 }

@@ -18,9 +18,9 @@ before-at r (x ∷ xs) zero d b h = b .0
 before-at r (x ∷ xs) (suc m) d b h = before-at r xs m d (b .1) (omega arith)
 
 -- ---- order kept
-pub before-chain : (r s : Row) (xs : List Row) → rowOrder r s ≡ Ordering.Less → RowBefore s xs → RowBefore r xs
-before-chain r s [] h b = tt
-before-chain r s (x ∷ xs) h b = (row-chain r s x h (b .0), before-chain r s xs h (b .1))
+pub row-before-chain : (r s : Row) (xs : List Row) → rowOrder r s ≡ Ordering.Less → RowBefore s xs → RowBefore r xs
+row-before-chain r s [] h b = tt
+row-before-chain r s (x ∷ xs) h b = (row-chain r s x h (b .0), row-before-chain r s xs h (b .1))
 
 before-like : (r s : Row) (xs : List Row) → slotOf r ≡ slotOf s → RowBefore s xs → RowBefore r xs
 before-like r s [] h b = tt
@@ -36,13 +36,13 @@ before-insert s r (x ∷ xs) h b = go (rowOrder r x) (before-insert s r xs h (b 
     go Ordering.Equal ih = (h, b .1)
     go Ordering.Greater ih = (b .0, ih)
 
-pub sorted-insert : (r : Row) (rs : List Row) → SortedRows rs → SortedRows (insertRow r rs)
+pub sorted-insert-row : (r : Row) (rs : List Row) → SortedRows rs → SortedRows (insertRow r rs)
 unfolding insertRow
-sorted-insert r [] s = (tt, tt)
-sorted-insert r (x ∷ xs) s = go (rowOrder r x) refl (sorted-insert r xs (s .1))
+sorted-insert-row r [] s = (tt, tt)
+sorted-insert-row r (x ∷ xs) s = go (rowOrder r x) refl (sorted-insert-row r xs (s .1))
   where
     go : (o : Ordering) → rowOrder r x ≡ o → SortedRows (insertRow r xs) → SortedRows (insertRowBy o r x xs (insertRow r xs))
-    go Ordering.Less q ih = ((q, before-chain r x xs q (s .0)), s)
+    go Ordering.Less q ih = ((q, row-before-chain r x xs q (s .0)), s)
     go Ordering.Equal q ih = (before-like r x xs (row-same r x q) (s .0), s .1)
     go Ordering.Greater q ih = (before-insert x r xs (row-greater r x q) (s .0), ih)
 

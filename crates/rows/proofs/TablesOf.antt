@@ -15,11 +15,11 @@ use Rattle.basics.proofs.Booleans.{split, and-left, and-right, cond-same, cond-
 use Rattle.flow.proofs.Orders.{number-equal}
 use Rattle.flow.proofs.Entries.{same-eq}
 use Rattle.flow_table.specs.FlowTable.{Before, Sorted, get, insert, removeIf, assignIf, anyOf}
-use Rattle.flow_table.proofs.TableLaws.{sorted-insert as sorted-insert-entry, get-insert, table-ext}
+use Rattle.flow_table.proofs.TableLaws.{sorted-insert, get-insert, table-ext}
 use Rattle.rows.specs.Types.{Action, Key, Entry, Ordering, Row}
 use Rattle.rows.specs.Rows.{row, rowOrder, RowBefore, SortedRows, tableOf, insertRowBy, insertRow, removeRows, assignRow, assignRows, anyRow, onSwitch}
 use Rattle.rows.proofs.RowOrder.{slotOf, row-same, row-self, like-slot}
-use Rattle.rows.proofs.RowLaws.{sorted-insert, same-rows}
+use Rattle.rows.proofs.RowLaws.{sorted-insert-row, same-rows}
 
 -- ---- the table of a switch is in order
 less-key : (r s : Row) → r .switch ≡ s .switch → rowOrder r s ≡ Ordering.Less → keyOrder (r .entry .key) (s .entry .key) ≡ Ordering.Less
@@ -117,9 +117,9 @@ pub table-insert : (w : ℕ) (r : Row) (rs : List Row) → SortedRows rs → tab
 unfolding at
 table-insert w r rs s =
     split (eqb w (r .switch))
-    (λ e. rw e (table-ext (tableOf w (insertRow r rs)) (insert (r .entry .key) (r .entry .action) (tableOf w rs)) (sorted-table w (insertRow r rs) (sorted-insert r rs s)) (sorted-insert-entry (r .entry .key) (r .entry .action) (tableOf w rs) (sorted-table w rs s))
+    (λ e. rw e (table-ext (tableOf w (insertRow r rs)) (insert (r .entry .key) (r .entry .action) (tableOf w rs)) (sorted-table w (insertRow r rs) (sorted-insert-row r rs s)) (sorted-insert (r .entry .key) (r .entry .action) (tableOf w rs) (sorted-table w rs s))
     (λ k. get-insert-row w k r rs ∙ rw e (sym (get-insert k (r .entry .key) (r .entry .action) (tableOf w rs))))))
-    (λ e. rw e (table-ext (tableOf w (insertRow r rs)) (tableOf w rs) (sorted-table w (insertRow r rs) (sorted-insert r rs s)) (sorted-table w rs s) (λ k. get-insert-row w k r rs ∙ rw e refl)))
+    (λ e. rw e (table-ext (tableOf w (insertRow r rs)) (tableOf w rs) (sorted-table w (insertRow r rs) (sorted-insert-row r rs s)) (sorted-table w rs s) (λ k. get-insert-row w k r rs ∙ rw e refl)))
 
 -- ---- rows removed, assigned, asked, by a test on the keys of a switch
 -- two switches that differ: a row of the one is none of the other

@@ -20,7 +20,7 @@ use Rattle.rows_sort.specs.Sorting.{standsIn, standsEarlier, sortFrom, s
 use Rattle.rows_search.specs.Inner.{found, foundBy}
 use Rattle.rows.proofs.RowOrder.{slotOf, row-same, like-slot-right, same-slot-iff}
 use Rattle.basics.proofs.Arrays.{next, ended}
-use Rattle.rows.proofs.RowLaws.{before-chain, sorted-insert, same-rows}
+use Rattle.rows.proofs.RowLaws.{row-before-chain, sorted-insert-row, same-rows}
 
 -- ---- a search in rows in order tells whether a row's switch and key are there
 none-same : (r : Row) (rs : List Row) → RowBefore r rs → anyRow (sameSlot r) rs ≡ false
@@ -34,7 +34,7 @@ found-any r [] s = refl
 found-any r (x ∷ xs) s = go (rowOrder r x) refl (found-any r xs (s .1))
   where
     go : (o : Ordering) → rowOrder r x ≡ o → found r xs ≡ anyRow (sameSlot r) xs → foundBy o (found r xs) ≡ (isEqual o || anyRow (sameSlot r) xs)
-    go Ordering.Less e ih = sym (none-same r xs (before-chain r x xs e (s .0)))
+    go Ordering.Less e ih = sym (none-same r xs (row-before-chain r x xs e (s .0)))
     go Ordering.Equal e ih = refl
     go Ordering.Greater e ih = ih
 
@@ -181,7 +181,7 @@ module _ (lines : List Row) where
 
   one-more : (k : ℕ) (rs : List Row) (x : Row) (xs : List Row) → Ordered lines k rs → drop k lines ≡ x ∷ xs → anyRow (sameSlot x) rs ≡ false → Ordered lines (k + 1) (insertRow x rs)
   one-more k rs x xs o e n = record {
-    sorted = sorted-insert x rs (o .sorted);
+    sorted = sorted-insert-row x rs (o .sorted);
     forth = λ y m. rw taken (⊎-elim (λ q. Memᴰ·append-right (take k lines) (List·Memᴰ·head q)) (λ h. Memᴰ·append-left (x ∷ []) (o .forth y h)) (mem-insert y x rs m));
     back = λ y m. ⊎-elim (λ h. keep-mem y x rs n (o .back y h)) (λ h. Memᴰ·cast (List·Memᴰ·eq-of-singleton h) (insert-mem x rs)) (List·Memᴰ·append-cases (take k lines) (rw taken at m));
     once = λ j h. split (ltb j k) (λ u. o .once j (ltb-true j k u)) (λ u. let q : j ≡ k = omega (arith, ltb-false j k u) in ap (standsEarlier lines) q ∙ stands k rs x xs o e ∙ n);

@@ -13,7 +13,7 @@ use Rattle.basics.proofs.Arrays.{next, ended, wrote, skipped, finished}
 use Rattle.rows.specs.Rows.{SortedRows, insertRow, anyRow, onSwitch, passes}
 use Rattle.rows.specs.Inner.{firstFor}
 use Rattle.rows_step.specs.Types.{Operation, Answer, Row, Filter, Put, Work}
-use Rattle.rows_step.specs.Stepping.{stepRows, replyRows}
+use Rattle.rows_step.specs.Stepping.{stepRows, answerRows}
 use Rattle.rows_step.specs.Inner.{changed, isDropped, treated, counted, seen, seenRows, withPut, chosen, WorkFor}
 use Rattle.rows_step.proofs.Works.{none-changed, row-changed, sorted-changed, none-pass, none-seen, nothing-passes}
 
@@ -131,7 +131,7 @@ pub record Passed (o : Operation) (rs : List Row) (n : ℕ) (l : List Row) (k : 
   pub most : k ≤ n
   pub sorted : SortedRows (take k l)
   pub rows : withPut p (take k l) ≡ stepRows o rs
-  pub reply : a ≡ replyRows o rs
+  pub answered : a ≡ answerRows o rs
 
 pub pass-end : (w : Work) (l₀ : List Row) (n : ℕ) (l : List Row) (i k : ℕ) (met : Bool) (a : Answer) → Passing w l₀ n l i k met a → n ≤ i
     → (o : Operation) → WorkFor o w → SortedRows (take n l₀) → (p : Put) → p ≡ cond met Put.Nothing (w .put) → Passed o (take n l₀) n l k a p
@@ -140,7 +140,7 @@ pass-end w l₀ n l i k met a s h o f z p q = record {
   most = omega (arith, s .below, s .within);
   sorted = rw kept (sorted-changed (chosen w) (w .change) (take n l₀) z);
   rows = rw (kept, q, told) (sym (f .rows (take n l₀)));
-  reply = sym (nothing-seen (chosen w) a) ∙ ap (seenRows (chosen w) a) (sym over) ∙ s .answers ∙ sym (f .reply (take n l₀));
+  answered = sym (nothing-seen (chosen w) a) ∙ ap (seenRows (chosen w) a) (sym over) ∙ s .answers ∙ sym (f .answered (take n l₀));
 }
   where
     over : drop i (take n l₀) ≡ []

@@ -11,12 +11,12 @@ use borrow.Author.Tests.{eqb-true}
 use Rattle.flow.specs.Entries.{sameKey}
 use Rattle.basics.proofs.Booleans.{split}
 use Rattle.flow_table.specs.FlowTable.{inside, clash, anyOf, tableEffect, after, answer}
-use Rattle.flow_table.specs.Switches.{stepOf, replyOf}
+use Rattle.flow_table.specs.Switches.{stepOf, answerOf}
 use Rattle.rows.specs.Types.{TableOperation, Operation, Answer}
 use Rattle.rows.specs.declared.row.Row.{Row}
 use Rattle.rows.specs.Rows.{row, SortedRows, tableOf, tablesOf, anyRow, onSwitch}
-use Rattle.rows_step.specs.Stepping.{tableStep, stepRows, tableReply, replyRows}
-use Rattle.rows.proofs.RowLaws.{sorted-insert, sorted-remove, sorted-assign, length-insert, length-remove, length-assign}
+use Rattle.rows_step.specs.Stepping.{tableStep, stepRows, tableAnswer, answerRows}
+use Rattle.rows.proofs.RowLaws.{sorted-insert-row, sorted-remove, sorted-assign, length-insert, length-remove, length-assign}
 use Rattle.rows.proofs.TablesOf.{table-insert, table-remove, table-assign, table-any}
 
 -- ---- the tables
@@ -56,28 +56,28 @@ module _ (v : ℕ) (rs : List Row) (s : SortedRows rs) where
   step-tables (Operation.Table w o) = step-table w o
 
 -- the answer
-pub reply-tables : (o : Operation) (rs : List Row) → replyRows o rs ≡ replyOf o (tablesOf rs)
-unfolding replyRows tableReply replyOf answer
-reply-tables Operation.Other rs = refl
-reply-tables (Operation.Barrier w) rs = refl
-reply-tables (Operation.Message w) rs = refl
-reply-tables (Operation.Table w (TableOperation.Packet p)) rs = refl
-reply-tables (Operation.Table w (TableOperation.Add e)) rs = refl
-reply-tables (Operation.Table w (TableOperation.AddChecked e)) rs = ap (λ b. Answer.Done (not b)) (table-any w (clash (e .key)) rs)
-reply-tables (Operation.Table w (TableOperation.ModifyStrict e)) rs = refl
-reply-tables (Operation.Table w (TableOperation.Modify e)) rs = refl
-reply-tables (Operation.Table w (TableOperation.DeleteStrict k)) rs = refl
-reply-tables (Operation.Table w (TableOperation.Delete m)) rs = refl
+pub answer-tables : (o : Operation) (rs : List Row) → answerRows o rs ≡ answerOf o (tablesOf rs)
+unfolding answerRows tableAnswer answerOf answer
+answer-tables Operation.Other rs = refl
+answer-tables (Operation.Barrier w) rs = refl
+answer-tables (Operation.Message w) rs = refl
+answer-tables (Operation.Table w (TableOperation.Packet p)) rs = refl
+answer-tables (Operation.Table w (TableOperation.Add e)) rs = refl
+answer-tables (Operation.Table w (TableOperation.AddChecked e)) rs = ap (λ b. Answer.Done (not b)) (table-any w (clash (e .key)) rs)
+answer-tables (Operation.Table w (TableOperation.ModifyStrict e)) rs = refl
+answer-tables (Operation.Table w (TableOperation.Modify e)) rs = refl
+answer-tables (Operation.Table w (TableOperation.DeleteStrict k)) rs = refl
+answer-tables (Operation.Table w (TableOperation.Delete m)) rs = refl
 
 -- ---- the order is kept
 sorted-table-step : (w : ℕ) (o : TableOperation) (rs : List Row) → SortedRows rs → SortedRows (tableStep w o rs)
 unfolding tableStep
 sorted-table-step w (TableOperation.Packet p) rs s = s
-sorted-table-step w (TableOperation.Add e) rs s = sorted-insert (row w e) rs s
-sorted-table-step w (TableOperation.AddChecked e) rs s = split (anyRow (onSwitch w (clash (e .key))) rs) (λ q. rw q s) (λ q. rw q (sorted-insert (row w e) rs s))
-sorted-table-step w (TableOperation.ModifyStrict e) rs s = sorted-insert (row w e) rs s
+sorted-table-step w (TableOperation.Add e) rs s = sorted-insert-row (row w e) rs s
+sorted-table-step w (TableOperation.AddChecked e) rs s = split (anyRow (onSwitch w (clash (e .key))) rs) (λ q. rw q s) (λ q. rw q (sorted-insert-row (row w e) rs s))
+sorted-table-step w (TableOperation.ModifyStrict e) rs s = sorted-insert-row (row w e) rs s
 sorted-table-step w (TableOperation.Modify e) rs s =
-    split (anyRow (onSwitch w (inside (e .key .pattern))) rs) (λ q. rw q (sorted-assign (onSwitch w (inside (e .key .pattern))) (e .action) rs s)) (λ q. rw q (sorted-insert (row w e) rs s))
+    split (anyRow (onSwitch w (inside (e .key .pattern))) rs) (λ q. rw q (sorted-assign (onSwitch w (inside (e .key .pattern))) (e .action) rs s)) (λ q. rw q (sorted-insert-row (row w e) rs s))
 sorted-table-step w (TableOperation.DeleteStrict k) rs s = sorted-remove (onSwitch w (sameKey k)) rs s
 sorted-table-step w (TableOperation.Delete m) rs s = sorted-remove (onSwitch w (inside m)) rs s
 

@@ -10,7 +10,7 @@ use Rattle.flow_table.specs.FlowTable.{inside, clash, admits}
 use Rattle.rows.specs.Rows.{row, SortedRows, insertRow, removeRows, assignRow, assignRows, anyRow, onSwitch, passes}
 use Rattle.rows.proofs.RowLaws.{sorted-remove, sorted-assign}
 use Rattle.rows_step.specs.Types.{Packet, Entry, TableOperation, Operation, Answer, Row, Filter, Change, Put}
-use Rattle.rows_step.specs.Stepping.{tableStep, stepRows, tableReply, replyRows}
+use Rattle.rows_step.specs.Stepping.{tableStep, stepRows, tableAnswer, answerRows}
 use Rattle.rows_step.specs.Inner.{changed, isDropped, treated, seen, seenRows, withPut, WorkFor}
 use Rattle.rows_step.proofs.Lookups.{lookup-best}
 
@@ -80,45 +80,45 @@ nothing-passes w (x ∷ xs) = rw (and-false-right (eqb w (x .switch)) refl) (not
 
 -- ---- the work of each operation
 -- nothing is asked
-pub putting-work : (o : Operation) (p : Put) → ((rs : List Row) → stepRows o rs ≡ withPut p rs) → ((rs : List Row) → replyRows o rs ≡ Answer.Silent)
+pub putting-work : (o : Operation) (p : Put) → ((rs : List Row) → stepRows o rs ≡ withPut p rs) → ((rs : List Row) → answerRows o rs ≡ Answer.Silent)
     → WorkFor o (record { switch = 0; filter = Filter.Nothing; change = Change.Keep; put = p; answer = Answer.Silent })
 unfolding changed
 putting-work o p f g = record {
   fresh = refl;
   rows = λ rs. f rs ∙ rw (nothing-passes 0 rs) refl;
-  reply = λ rs. g rs ∙ silent-stays _ rs;
+  answered = λ rs. g rs ∙ silent-stays _ rs;
 }
 
 pub packet-work : (w : ℕ) (p : Packet) → WorkFor (Operation.Table w (TableOperation.Packet p)) (record { switch = w; filter = Filter.Fits p; change = Change.Keep; put = Put.Nothing; answer = Answer.Miss })
-unfolding changed stepRows tableStep replyRows tableReply
+unfolding changed stepRows tableStep answerRows tableAnswer
 packet-work w p = record {
   fresh = refl;
   rows = λ rs. split (anyRow (onSwitch w (admits p)) rs) (λ u. rw u refl) (λ u. rw u refl);
-  reply = λ rs. sym (lookup-best w p rs);
+  answered = λ rs. sym (lookup-best w p rs);
 }
 
 pub checked-work : (w : ℕ) (e : Entry) → WorkFor (Operation.Table w (TableOperation.AddChecked e)) (record { switch = w; filter = Filter.Clash (e .key); change = Change.Keep; put = Put.One (row w e); answer = Answer.Done true })
-unfolding changed stepRows tableStep replyRows tableReply
+unfolding changed stepRows tableStep answerRows tableAnswer
 checked-work w e = record {
   fresh = refl;
   rows = λ rs. split (anyRow (onSwitch w (clash (e .key))) rs) (λ u. rw u refl) (λ u. rw u refl);
-  reply = λ rs. sym (done-unless _ rs);
+  answered = λ rs. sym (done-unless _ rs);
 }
 
 pub modify-work : (w : ℕ) (e : Entry) → WorkFor (Operation.Table w (TableOperation.Modify e)) (record { switch = w; filter = Filter.Within (e .key .pattern); change = Change.Assign (e .action); put = Put.One (row w e); answer = Answer.Silent })
-unfolding changed stepRows tableStep replyRows tableReply
+unfolding changed stepRows tableStep answerRows tableAnswer
 modify-work w e = record {
   fresh = refl;
   rows = λ rs. split (anyRow (onSwitch w (inside (e .key .pattern))) rs) (λ u. rw u refl) (λ u. rw u (ap (insertRow (row w e)) (sym (none-pass _ (Change.Assign (e .action)) rs u))));
-  reply = λ rs. silent-stays _ rs;
+  answered = λ rs. silent-stays _ rs;
 }
 
 -- the rows of switch w that pass are dropped
-pub removing-work : (o : Operation) (w : ℕ) (f : Filter) → ((rs : List Row) → stepRows o rs ≡ removeRows (onSwitch w (passes f)) rs) → ((rs : List Row) → replyRows o rs ≡ Answer.Silent)
+pub removing-work : (o : Operation) (w : ℕ) (f : Filter) → ((rs : List Row) → stepRows o rs ≡ removeRows (onSwitch w (passes f)) rs) → ((rs : List Row) → answerRows o rs ≡ Answer.Silent)
     → WorkFor o (record { switch = w; filter = f; change = Change.Drop; put = Put.Nothing; answer = Answer.Silent })
 unfolding changed
 removing-work o w f s g = record {
   fresh = refl;
   rows = λ rs. s rs ∙ split (anyRow (onSwitch w (passes f)) rs) (λ u. rw u refl) (λ u. rw u refl);
-  reply = λ rs. g rs ∙ silent-stays _ rs;
+  answered = λ rs. g rs ∙ silent-stays _ rs;
 }

@@ -7,7 +7,7 @@ use Prim.Native.Nat.{ℕ, _+_}
 use lib.Dec.{eqb, ltb}
 use Rattle.rows.specs.Rows.{insertRow, removeRows, assignRow, assignRows, anyRow, onSwitch, passes}
 use Rattle.rows_step.specs.Types.{Action, Entry, Operation, Answer, Row, Change, Put, Work}
-use Rattle.rows_step.specs.Stepping.{stepRows, replyRows}
+use Rattle.rows_step.specs.Stepping.{stepRows, answerRows}
 
 -- ---- the rows that pass a test are kept, dropped or assigned
 unfoldable pub changed : Change → (Row → Bool) → List Row → List Row
@@ -65,4 +65,4 @@ chosen w = onSwitch (w .switch) (passes (w .filter))
 pub record WorkFor (o : Operation) (w : Work) : Type 0 where
   pub fresh : counted (w .answer) ≡ 0
   pub rows : (rs : List Row) → stepRows o rs ≡ withPut (cond (anyRow (chosen w) rs) Put.Nothing (w .put)) (changed (w .change) (chosen w) rs)
-  pub reply : (rs : List Row) → replyRows o rs ≡ seenRows (chosen w) (w .answer) rs
+  pub answered : (rs : List Row) → answerRows o rs ≡ seenRows (chosen w) (w .answer) rs

@@ -30,18 +30,18 @@ stepRows (Operation.Message w) rs = rs
 stepRows (Operation.Table w o) rs = tableStep w o rs
 
 -- what an operation on switch w answers
-unfoldable pub tableReply : ℕ → TableOperation → List Row → Answer
-tableReply w (TableOperation.Packet p) rs = best (fitting p (tableOf w rs))
-tableReply w (TableOperation.Add e) rs = Answer.Silent
-tableReply w (TableOperation.AddChecked e) rs = Answer.Done (not (anyRow (onSwitch w (clash (e .key))) rs))
-tableReply w (TableOperation.ModifyStrict e) rs = Answer.Silent
-tableReply w (TableOperation.Modify e) rs = Answer.Silent
-tableReply w (TableOperation.DeleteStrict k) rs = Answer.Silent
-tableReply w (TableOperation.Delete m) rs = Answer.Silent
+unfoldable pub tableAnswer : ℕ → TableOperation → List Row → Answer
+tableAnswer w (TableOperation.Packet p) rs = best (fitting p (tableOf w rs))
+tableAnswer w (TableOperation.Add e) rs = Answer.Silent
+tableAnswer w (TableOperation.AddChecked e) rs = Answer.Done (not (anyRow (onSwitch w (clash (e .key))) rs))
+tableAnswer w (TableOperation.ModifyStrict e) rs = Answer.Silent
+tableAnswer w (TableOperation.Modify e) rs = Answer.Silent
+tableAnswer w (TableOperation.DeleteStrict k) rs = Answer.Silent
+tableAnswer w (TableOperation.Delete m) rs = Answer.Silent
 
 -- the answer of an event
-unfoldable pub replyRows : Operation → List Row → Answer
-replyRows Operation.Other rs = Answer.Silent
-replyRows (Operation.Barrier w) rs = Answer.Silent
-replyRows (Operation.Message w) rs = Answer.Silent
-replyRows (Operation.Table w o) rs = tableReply w o rs
+unfoldable pub answerRows : Operation → List Row → Answer
+answerRows Operation.Other rs = Answer.Silent
+answerRows (Operation.Barrier w) rs = Answer.Silent
+answerRows (Operation.Message w) rs = Answer.Silent
+answerRows (Operation.Table w o) rs = tableAnswer w o rs

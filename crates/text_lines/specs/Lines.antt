@@ -4,6 +4,7 @@ use mathlib.Core.Bool.{Bool, cond, _||_}
 use mathlib.Core.List.{List, [], _∷_, _++_}
 use lib.Dec.{eqb}
 use lib.ListN.{length, getD, take}
+use Rattle.basics.specs.Text.{bytes}
 
 -- a byte more at the front of the first line
 unfoldable pub inFirst : ℕ → List (List ℕ) → List (List ℕ)
@@ -18,7 +19,7 @@ lines (b ∷ s) = cond (eqb b 10) ([] ∷ lines s) (inFirst b (lines s))
 -- the text of lines, each followed by LF
 unfoldable pub unlines : List (List ℕ) → List ℕ
 unlines [] = []
-unlines (l ∷ ls) = l ++ 10 ∷ unlines ls
+unlines (l ∷ ls) = l ++ (bytes "\n" ++ unlines ls)
 
 -- where line n starts: after the lines before it, each with its LF
 unfoldable pub lineStart : List ℕ → ℕ → ℕ

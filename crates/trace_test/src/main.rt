@@ -14,7 +14,7 @@ fn answer(text: &[u8], outcome: Outcome, events: usize) {
             program_output::end_line();
         }
         Outcome::Refused(r) => {
-            program_output::refused(text, b"", r);
+            program_output::write_refused(text, b"", r);
         }
     }
 }

@@ -128,8 +128,8 @@ trace-reads s es t =
     rw (within-limit s (record { bytes = t .bytes; ended = t .ended; few = n }), r) (tokens-pass es (t .once, t .inTime))
 
 -- a text is accepted as these events exactly if it is their text
-pub accepted-iff : (s : List ℕ) (es : List Event) → (readTrace s ≡ inr es) ↔ IsTrace s es
-accepted-iff s es = (trace-only s es, trace-reads s es)
+pub trace-accepted-iff : (s : List ℕ) (es : List Event) → (readTrace s ≡ inr es) ↔ IsTrace s es
+trace-accepted-iff s es = (trace-only s es, trace-reads s es)
 
 -- what the events of an accepted trace carry is in range
 pub AllInRange : List Event → Type 0

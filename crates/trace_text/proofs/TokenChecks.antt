@@ -15,10 +15,10 @@ use Rattle.trace_events.specs.Events.{tokensOf, eventsOf, eventAt, noEvent, noT
 use Rattle.basics.specs.Searches.{shares, orElse, lowest}
 use Rattle.basics.proofs.Searches.{any-same, any-none}
 use Rattle.trace_events.proofs.TraceLaws.{event-at, length-events}
-use Rattle.refusals.specs.Checks.{_▹_, refuseAt, outcomeOf}
+use Rattle.refusals.specs.Checks.{_▹_, refuseAt, outcomeOf, firstOf}
 use Rattle.trace_text.specs.Types.{Refusal, Event, Tokens, Trace, Outcome}
 use Rattle.trace_text.specs.TraceText.{outsAt, putsOut, twice, takenEarly}
-use Rattle.trace_text.specs.Inner.{checkTokens, firstOf}
+use Rattle.trace_text.specs.Inner.{checkTokens}
 
 -- ---- some line puts out one of the tokens
 and-false : (b : Bool) → (b && false) ≡ false

@@ -3,8 +3,9 @@ use mathlib.Core.List.{List}
 use mathlib.Core.Logic.{inr}
 use lib.ListN.{length}
 use Rattle.basics.specs.Searches.{lowest}
-use Rattle.refusals.specs.Checks.{Checked, _▹_, refuseAt}
-use Rattle.trace_text.specs.Types.{Refusal, Event, Outcome}
+use Rattle.refusals.specs.Checks.{Checked, _▹_, refuseAt, outcomeOf}
+use Rattle.trace_events.specs.Events.{eventsOf}
+use Rattle.trace_text.specs.Types.{Refusal, Event, TraceRead}
 use Rattle.trace_text.specs.TraceText.{twice, takenEarly}
 
 -- 7, then 8, of events that are read
@@ -14,7 +15,6 @@ checkTokens es =
     refuseAt (lowest (takenEarly es) (length es)) Refusal.TokenTooEarly ▹ λ _.
     inr es
 
--- the first of two outcomes that is a refusal
-abbrev pub firstOf : Outcome → Outcome → Outcome
-firstOf (Outcome.Refused r) other = Outcome.Refused r
-firstOf Outcome.Accepted other = other
+-- what the code's answer says
+abbrev pub asTrace : TraceRead → Checked (List Event)
+asTrace r = outcomeOf (r .outcome) (eventsOf (r .trace))

@@ -8,11 +8,11 @@ use lib.ListN.{length}
 use Rattle.text_lines.specs.Lines.{lines}
 use Rattle.text_lines.specs.Limits.{limitOf}
 use Rattle.text_reader.specs.Each.{readEach}
-use Rattle.trace_events.specs.Events.{tokensOf, eventAt, eventsOf}
+use Rattle.trace_events.specs.Events.{tokensOf, eventAt}
 use Rattle.basics.specs.Searches.{anyBelow, shares, lowest}
 use Rattle.trace_line.specs.EventLine.{readEvent}
-use Rattle.refusals.specs.Checks.{Checked, _▹_, refuseLimit, refuseAt, outcomeOf}
-use Rattle.trace_text.specs.Types.{Refusal, Event, TraceRead}
+use Rattle.refusals.specs.Checks.{Checked, _▹_, refuseLimit, refuseAt}
+use Rattle.trace_text.specs.Types.{Refusal, Event}
 
 -- the tokens that line i takes in and puts out
 abbrev pub insAt : List Event → ℕ → List ℕ
@@ -41,7 +41,3 @@ readTrace s =
     refuseAt (lowest (twice es) (length es)) Refusal.TokenTwice ▹ λ _.
     refuseAt (lowest (takenEarly es) (length es)) Refusal.TokenTooEarly ▹ λ _.
     inr es
-
--- what the code's answer says
-abbrev pub asTrace : TraceRead → Checked (List Event)
-asTrace r = outcomeOf (r .outcome) (eventsOf (r .trace))

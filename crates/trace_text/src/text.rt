@@ -14,8 +14,8 @@ ghost use Rattle.text_lines.specs.Lines.{lines};
 ghost use Rattle.text_reader.specs.Each.{readEach};
 ghost use Rattle.refusals.specs.Checks.{_▹_};
 ghost use Rattle.trace_line.specs.EventLine.{readEvent};
-ghost use Rattle.trace_text.specs.TraceText.{readTrace, asTrace};
-ghost use Rattle.trace_text.specs.Inner.{checkTokens};
+ghost use Rattle.trace_text.specs.TraceText.{readTrace};
+ghost use Rattle.trace_text.specs.Inner.{asTrace, checkTokens};
 
 // Accepted, the trace holds the events.
 pub struct TraceRead {

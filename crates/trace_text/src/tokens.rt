@@ -1,6 +1,7 @@
 // The tokens of a trace: none put out twice, none taken in before it is put out.
 use refusals::Outcome;
 use refusals::Refusal;
+use refusals::first_of;
 use trace_events::Tokens;
 use trace_events::Trace;
 ghost use mathlib.Core.Path.{_≡_};
@@ -10,7 +11,7 @@ ghost use lib.ListN.{getD};
 ghost use Rattle.trace_events.specs.Events.{tokensOf, eventsOf, eventAt, noTokens};
 ghost use Rattle.refusals.specs.Checks.{outcomeOf};
 ghost use Rattle.trace_text.specs.TraceText.{putsOut};
-ghost use Rattle.trace_text.specs.Inner.{checkTokens, firstOf};
+ghost use Rattle.trace_text.specs.Inner.{checkTokens};
 
 // What each line puts out: a small array, so that the searches copy no events.
 fn all_outs(t: Trace) -> [Tokens; 256]
@@ -43,16 +44,6 @@ fn puts_out(all: [Tokens; 256], tokens: Tokens, from: usize, to: usize) -> bool
         found = found | shared;
     }
     found
-}
-
-// The first of two outcomes that is a refusal.
-fn first_of(a: Outcome, b: Outcome) -> Outcome
-    ensures { λ r. ⌜ r ≡ firstOf a b ⌝ }
-{
-    match a {
-        Outcome::Refused(_) => a,
-        Outcome::Accepted => b,
-    }
 }
 
 fn refused_if(found: bool, refusal: Refusal) -> Outcome

@@ -16,7 +16,7 @@ use Rattle.trace_tokens.specs.Types.{Tokens, NextToken}
 -- the numbers after the first, each behind a comma
 unfoldable pub printMore : List ℕ → List ℕ
 printMore [] = []
-printMore (t ∷ ts) = 44 ∷ printNumber t ++ printMore ts
+printMore (t ∷ ts) = bytes "," ++ (printNumber t ++ printMore ts)
 
 -- `-`, or the numbers with commas
 unfoldable pub printTokens : List ℕ → List ℕ

@@ -14,7 +14,7 @@ returns c =
     let a = at-outcome .before .before .before .before .before .args in (
       read-both (now (a .trace)) (now (a .tables)) (traced .result .outcome) (tabled .result .outcome)
           (eventsOf (traced .result .trace)) (rowsOf (tabled .result .rows))
-          (at-outcome .first-refused .ensures) (traced .ensures .0) (tabled .ensures .0),
+          (at-outcome .first-of .ensures) (traced .ensures .0) (tabled .ensures .0),
       traced .ensures .1,
       tabled .ensures .1,
     )

@@ -7,10 +7,13 @@ use Rattle.refusals_text.proofs.put_key_number.Tie as tie
 
 returns : tie.Need-returns
 unfolding keyNumber
-returns c = (
-  put-then (c .before .before .before .before .before .before .put-bytes .ensures) (c .before .before .put-number .ensures),
-  omega (arith, c .before .before .before .before .before .before .put-bytes .ensures .after, c .before .before .put-number .ensures .after, c .before .before .before .before .before .before .before .before .before .before .pre, print-length (c .before .before .before .before .before .before .before .before .before .before .args .v)),
-)
+returns c =
+    let at-put-number = c .before .before in
+    let at-put-bytes = at-put-number .before .before .before .before in
+    let at-start = at-put-bytes .before .before .before .before in (
+      put-then (at-put-bytes .put-bytes .ensures) (at-put-number .put-number .ensures),
+      omega (arith, at-put-bytes .put-bytes .ensures .after, at-put-number .put-number .ensures .after, at-start .pre, print-length (at-start .args .v)),
+    )
 
 pub put-key-number-spec : {M : Type 1} → statement M
 put-key-number-spec = tie.close (tie.spec (λ c κs. search needs) (λ c κs. search needs) (λ c. search needs) returns)

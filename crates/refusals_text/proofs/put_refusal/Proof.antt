@@ -7,10 +7,11 @@ use Rattle.refusals_text.proofs.put_refusal.Tie as tie
 
 returns : tie.Need-returns
 returns c =
-    let m = c .before .before .before .before .before .before in
+    let at-put-byte = c .before .before in
+    let m = at-put-byte .before .before .before .before in
     let n = m .before .before .before .before .before in
     let s = n .before .before .before .before in (
-      refusal-put _ _ _ (s .before .returned .ensures) (s .shown .ensures) (put-then (put-then (n .put-key-number .ensures .0) (m .put-key-number2 .ensures .0)) (put-one _ 10 _ _ (c .before .before .put-byte .ensures))),
+      refusal-put _ _ _ (s .before .returned .ensures) (s .shown .ensures) (put-then (put-then (n .put-key-number .ensures .0) (m .put-key-number2 .ensures .0)) (put-one _ 10 _ _ (at-put-byte .put-byte .ensures))),
       omega (arith, n .put-key-number .ensures .1, m .put-key-number2 .ensures .1),
     )
 

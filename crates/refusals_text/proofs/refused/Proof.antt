@@ -12,15 +12,19 @@ returns c =
 
 returns-2 : tie.Need-returns-2
 returns-2 c =
-    let a = c .before .before .before .before .before in
+    let at-put-line = c .before .before in
+    let at-refused-line = at-put-line .before in
+    let a = at-refused-line .before .before in
     let t = a .before .before in
-    refused-arm _ _ _ _ _ (t .returned .ensures) (a .enum-told2 .given .1) (c .before .before .before .refused-line .ensures) (put-then (t .before .before .before .put-refusal .ensures .0) (c .before .before .put-line .ensures))
+    refused-arm _ _ _ _ _ (t .returned .ensures) (a .enum-told2 .given .1) (at-refused-line .refused-line .ensures) (put-then (t .before .before .before .put-refusal .ensures .0) (at-put-line .put-line .ensures))
 
 returns-3 : tie.Need-returns-3
 returns-3 c =
-    let a = c .before .before .before .before .before in
+    let at-put-line2 = c .before .before in
+    let at-refused-line2 = at-put-line2 .before in
+    let a = at-refused-line2 .before .before in
     let t = a .before .before in
-    refused-arm _ _ _ _ _ (t .returned .ensures) (a .enum-told3 .given .1) (c .before .before .before .refused-line2 .ensures) (put-then (t .before .before .before .put-refusal .ensures .0) (c .before .before .put-line2 .ensures))
+    refused-arm _ _ _ _ _ (t .returned .ensures) (a .enum-told3 .given .1) (at-refused-line2 .refused-line2 .ensures) (put-then (t .before .before .before .put-refusal .ensures .0) (at-put-line2 .put-line2 .ensures))
 
 pub refused-spec : {M : Type 1} → statement M
 refused-spec =

@@ -8,7 +8,7 @@ use lib.ListN.{take, drop, length, length-set}
 use borrow.Author.Needs.{needs}
 use Rattle.rows.specs.Rows.{SortedRows}
 use Rattle.basics.proofs.Arrays.{length-mapped}
-use Rattle.rows.proofs.RowLaws.{sorted-insert}
+use Rattle.rows.proofs.RowLaws.{sorted-insert-row}
 use Rattle.rows_search.proofs.Searches.{Searched, search-start, search-less, search-turn, search-end}
 use Rattle.rows_search.proofs.Shifts.{Shifting, shift-start, shift-turn, shift-end}
 use Rattle.rows_sort.specs.Sorting.{sortFrom, sortRows}
@@ -56,8 +56,9 @@ loop2-less c =
 
 loop2-again : tie.Need-loop2-again Inv-loop2 μ-loop2 Inv-loop3 μ-loop3 Inv-loop μ-loop
 loop2-again c =
-    let mid = c .before .before .middle in
-    let q = c .before .before .before .before .before in
+    let at-middle = c .before .before in
+    let q = at-middle .before .before .before in
+    let mid = at-middle .middle in
     search-turn _ _ _ _ (q .loop2 .inv) _ (mid .ensures .0) (mid .ensures .1) _ (c .narrowed .ensures) (q .before .before .before .loop .inv .4)
 
 returns : tie.Need-returns Inv-loop2 μ-loop2 Inv-loop3 μ-loop3 Inv-loop μ-loop
@@ -76,23 +77,27 @@ loop3-holds c =
 
 loop3-again : tie.Need-loop3-again Inv-loop2 μ-loop2 Inv-loop3 μ-loop3 Inv-loop μ-loop
 loop3-again c =
-    let l = c .before .before .before .before .before .before .before .before .before .loop in
-    shift-turn _ (l .i) _ _ _ _ (c .before .before .loop3 .inv) (omega arith) _ (c .before .loop3-test .taken)
+    let at-loop3 = c .before .before in
+    let at-loop = at-loop3 .before .before .before .before .before .before .before in
+    let l = at-loop .loop in
+    shift-turn _ (l .i) _ _ _ _ (at-loop3 .loop3 .inv) (omega arith) _ (c .before .loop3-test .taken)
 
 loop-again : tie.Need-loop-again Inv-loop2 μ-loop2 Inv-loop3 μ-loop3 Inv-loop μ-loop
 loop-again c =
+    let at-if2 = c .before .before in
+    let at-if1 = at-if2 .before in
+    let q = at-if1 .before .before in
     let m = c .before .loop3 in
-    let q = c .before .before .before .before .before in
     let l = q .before .before .before .loop in
     let t = q .before .before .before .before .before .args .t1 in
-    let p = search-end _ _ _ _ (q .loop2 .inv) (c .before .before .before .if1 .left) in
-    let e = c .before .before .if2 .left in
+    let p = search-end _ _ _ _ (q .loop2 .inv) (at-if1 .if1 .left) in
+    let e = at-if2 .if2 .left in
     let put = shift-end (q .loop2 .search .at) (l .i) _ (l .i) (l .i + 1) (q .loop2 .search .same) (rw e refl) (l .inv .3) _ _ (m .inv) (omega arith) (c .loop3-test .left) _ p in (
       omega arith,
       l .inv .1,
       l .inv .2,
       simp length-set (m .inv .size),
-      rw put (sorted-insert _ _ (l .inv .4)),
+      rw put (sorted-insert-row _ _ (l .inv .4)),
       rw put (sym (line-first (t .rows) (t .len) (l .i) _ (omega arith) (omega arith) _ (l .inv .4) _ (p .tells) e) ∙ l .inv .5),
     )
 

@@ -23,8 +23,9 @@ loop-less c =
 
 loop-again : tie.Need-loop-again Inv-loop μ-loop
 loop-again c =
-    let n = c .before .before .before .before in
-    gathered-more _ _ _ _ _ _ (n .before .before .before .loop .inv) (n .before .if1 .taken) _ (sym (n .next-token .ensures) ∙ c .before .before .step .given .1) (c .with-token .ensures)
+    let at-step = c .before .before in
+    let n = at-step .before .before in
+    gathered-more _ _ _ _ _ _ (n .before .before .before .loop .inv) (n .before .if1 .taken) _ (sym (n .next-token .ensures) ∙ at-step .step .given .1) (c .with-token .ensures)
 
 returns : tie.Need-returns Inv-loop μ-loop
 returns c =

@@ -13,9 +13,10 @@ returns c =
 
 returns-2 : tie.Need-returns-2
 returns-2 c =
-    let told = c .before .before .before .before .before in
+    let at-put-list = c .before .before in
+    let told = at-put-list .before .before .before in
     let read = told .before .before .read-trace in
-    call-accepted _ (read .result) (read .ensures .0) _ (told .enum-told .given .1) (c .before .before .put-list .ensures)
+    call-accepted _ (read .result) (read .ensures .0) _ (told .enum-told .given .1) (at-put-list .put-list .ensures)
 
 pub list-races-spec : {M : Type 1} → statement M
 list-races-spec =

@@ -17,11 +17,14 @@ array-share-prefix-pairs : tie.Need-array-share-prefix-pairs
 array-share-prefix-pairs c = c .before .before .before .list-of .ensures .within
 
 slice-aggregate-copy : tie.Need-slice-aggregate-copy
-slice-aggregate-copy c = sym (length-take-le _ _ (c .before .before .before .before .list-of .ensures .within))
+slice-aggregate-copy c =
+    let at-list-of = c .before .before .before .before in
+    sym (length-take-le _ _ (at-list-of .list-of .ensures .within))
 
 copy-requires : tie.Need-copy-requires
 copy-requires c κs =
-    let made = c .before .before .before .before .before .list-of in
+    let at-list-of = c .before .before .before .before .before in
+    let made = at-list-of .list-of in
     omega (arith, length-take-le (made .result .length) (made .result .bytes) (made .ensures .within))
 
 returns-2 : tie.Need-returns-2

@@ -43,8 +43,10 @@ loop-holds c = (omega arith, search (needs, length-mapped), c .no-counts .ensure
 
 loop2-holds : tie.Need-loop2-holds Inv-loop2 μ-loop2 Inv-loop μ-loop
 loop2-holds c =
-    let es = eventsOf (c .before .before .before .before .before .args .t1) in
-    let i = c .before .before .loop .i in (
+    let at-loop = c .before .before in
+    let at-start = at-loop .before .before .before in
+    let es = eventsOf (at-start .args .t1) in
+    let i = at-loop .loop .i in (
       omega arith,
       omega arith,
       λ k. rw (row-start (test k es) i) (omega arith),
@@ -60,7 +62,9 @@ most q k =
     omega (arith, q .loop2 .inv .2 k, l .inv .2 k, below-most k es (s .args .t1 .len) (l .i) (s .pre .0 .0), row-most (test k es) (l .i) (q .loop2 .j))
 
 mul-put-listed : tie.Need-mul-put-listed Inv-loop2 μ-loop2 Inv-loop μ-loop
-mul-put-listed c = omega (arith, most (c .before .before .before .before .before .before) listed)
+mul-put-listed c =
+    let at-place-6 = c .before .before .before .before .before .before in
+    omega (arith, most (at-place-6) listed)
 
 put-listed-requires : tie.Need-put-listed-requires Inv-loop2 μ-loop2 Inv-loop μ-loop
 put-listed-requires c κs =
@@ -86,7 +90,8 @@ counted-requires c κs =
 
 loop2-again : tie.Need-loop2-again Inv-loop2 μ-loop2 Inv-loop μ-loop
 loop2-again c =
-    let v = c .before .before .before .before .before .before in
+    let at-put-listed = c .before .before .before in
+    let v = at-put-listed .before .before .before in
     let q = v .before .before .before .before in
     let m = q .loop2 in
     let l = q .before .before .before .loop in
@@ -101,14 +106,16 @@ loop2-again c =
       omega arith,
       omega arith,
       λ k. count-turn es i (m .j) (m .inv .0) before-is verdict k _ _ _ (c .counted .ensures k) (m .inv .2 k),
-      bytes-turn es i (m .j) (m .inv .0) before-is verdict _ _ _ (l .sum .listed) (m .sum .listed) (m .inv .2 listed) (m .inv .3) (c .before .before .before .put-listed .ensures),
+      bytes-turn es i (m .j) (m .inv .0) before-is verdict _ _ _ (l .sum .listed) (m .sum .listed) (m .inv .2 listed) (m .inv .3) (at-put-listed .put-listed .ensures),
     )
 
 loop-again : tie.Need-loop-again Inv-loop2 μ-loop2 Inv-loop μ-loop
 loop-again c =
+    let at-loop = c .before .before .before .before in
+    let at-start = at-loop .before .before .before in
     let m = c .before .loop2 in
-    let l = c .before .before .before .before .loop in
-    let t = c .before .before .before .before .before .before .before .args .t1 in
+    let l = at-loop .loop in
+    let t = at-start .args .t1 in
     let es = eventsOf t in
     let e : m .j ≡ t .len = omega arith in (
       omega arith,
@@ -123,8 +130,8 @@ same-length c = ap length (c .before .loop .inv .3) ∙ simp length-sets
 
 returns : tie.Need-returns Inv-loop2 μ-loop2 Inv-loop μ-loop
 returns c =
-    let l = c .before .loop in
     let s = c .before .before .before .before in
+    let l = c .before .loop in
     let t = s .args .t1 in
     let size : length (eventsOf t) ≡ t .len = length-events t (omega (arith, s .pre .0)) in
     let e : l .i ≡ t .len = omega arith in (

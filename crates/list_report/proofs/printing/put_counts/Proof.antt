@@ -24,7 +24,8 @@ add-result c =
 returns : tie.Need-returns
 unfolding countsLine
 returns c =
-    let listed = c .before .before .before .before .before .before in
+    let at-put-byte = c .before .before in
+    let listed = at-put-byte .before .before .before .before in
     let commuting = listed .before .before .before .before .before .before in
     let ordered = commuting .before .before .before .before .before .before in
     let pairs = ordered .before .before .before .before .before .before in
@@ -32,7 +33,7 @@ returns c =
     (put-then
     (put-then (put-then (pairs .put-key-number .ensures .0) (ordered .put-key-number2 .ensures .0)) (commuting .put-key-number3 .ensures .0))
     (listed .put-key-number4 .ensures .0))
-    (put-one _ 10 _ _ (c .before .before .put-byte .ensures))
+    (put-one _ 10 _ _ (at-put-byte .put-byte .ensures))
 
 pub put-counts-spec : {M : Type 1} → statement M
 put-counts-spec =

@@ -9,11 +9,14 @@ use Rattle.list_report.proofs.printing.put_listing.Statement.{statement
 use Rattle.list_report.proofs.printing.put_listing.Tie as tie
 
 slice-aggregate-put-races : tie.Need-slice-aggregate-put-races
-slice-aggregate-put-races c = sym (length-take-le _ _ (c .before .before .before .before .list-of .ensures .within))
+slice-aggregate-put-races c =
+    let at-list-of = c .before .before .before .before in
+    sym (length-take-le _ _ (at-list-of .list-of .ensures .within))
 
 put-races-requires : tie.Need-put-races-requires
 put-races-requires c κs =
-    let made = c .before .before .before .before .list-of in
+    let at-list-of = c .before .before .before .before in
+    let made = at-list-of .list-of in
     omega (arith, length-take-le (made .result .length) (made .result .bytes) (made .ensures .within), made .ensures .most)
 
 returns : tie.Need-returns

@@ -7,10 +7,13 @@ use Rattle.list_report.proofs.printing.put_race.Tie as tie
 
 returns : tie.Need-returns
 unfolding raceLine
-returns c = (
-  put-then (put-then (c .before .before .before .before .before .before .before .before .before .before .before .put-key-number .ensures .0) (c .before .before .before .before .before .before .put-key-number2 .ensures .0)) (put-one _ 10 _ _ (c .before .before .put-byte .ensures)),
-  omega (arith, c .before .before .before .before .before .before .before .before .before .before .before .put-key-number .ensures .1, c .before .before .before .before .before .before .put-key-number2 .ensures .1),
-)
+returns c =
+    let at-put-byte = c .before .before in
+    let at-put-key-number2 = at-put-byte .before .before .before .before in
+    let at-put-key-number = at-put-key-number2 .before .before .before .before .before in (
+      put-then (put-then (at-put-key-number .put-key-number .ensures .0) (at-put-key-number2 .put-key-number2 .ensures .0)) (put-one _ 10 _ _ (at-put-byte .put-byte .ensures)),
+      omega (arith, at-put-key-number .put-key-number .ensures .1, at-put-key-number2 .put-key-number2 .ensures .1),
+    )
 
 pub put-race-spec : {M : Type 1} → statement M
 put-race-spec =

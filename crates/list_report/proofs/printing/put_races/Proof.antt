@@ -23,9 +23,12 @@ loop-holds c = (omega arith, omega arith, c .before .before .pre, ([], put-none 
 
 loop-again : tie.Need-loop-again Inv-loop μ-loop
 loop-again c =
-    let l = c .before .before .before .before .before .before .before .loop in
-    let a = c .before .before .before .before .before .before .before .before .before .before .args in
-    let e = c .before .before .put-race .ensures in
+    let at-put-race = c .before .before in
+    let at-loop = at-put-race .before .before .before .before .before in
+    let at-start = at-loop .before .before .before in
+    let l = at-loop .loop in
+    let a = at-start .args in
+    let e = at-put-race .put-race .ensures in
     let t = races-turn (a .list .now) (a .out .now) (l .i) (l .inv .3 .1) (l .inv .3 .2) (omega arith) (e .0) in
     (omega arith, omega (arith, e .1), l .inv .2, (_, t .0, t .1))
 

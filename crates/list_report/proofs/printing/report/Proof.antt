@@ -12,9 +12,10 @@ returns c =
 
 returns-2 : tie.Need-returns-2
 returns-2 c =
-    let told = c .before .before .before .before .before in
+    let at-put-listing = c .before .before in
+    let told = at-put-listing .before .before .before in
     let read = told .before .before .read-trace in
-    accepted-put _ (read .result) (read .ensures .0) (told .enum-told .given .1) (c .before .before .put-listing .ensures)
+    accepted-put _ (read .result) (read .ensures .0) (told .enum-told .given .1) (at-put-listing .put-listing .ensures)
 
 pub report-spec : {M : Type 1} → statement M
 report-spec =

@@ -33,16 +33,20 @@ loop-holds c = (search needs, refl, refl)
 
 loop-again : tie.Need-loop-again Inv-loop μ-loop Inv-search μ-search
 loop-again c =
-    let m = c .before .before .before .before .loop in
-    (search needs, m .inv .1, sym (walk.passed _ _ _ (m .q) (c .before .before .before .loop-test .taken) (sym (c .before .is-before .ensures) ∙ c .if1 .left)) ∙ m .inv .2)
+    let at-loop-test = c .before .before .before in
+    let at-loop = at-loop-test .before in
+    let m = at-loop .loop in
+    (search needs, m .inv .1, sym (walk.passed _ _ _ (m .q) (at-loop-test .loop-test .taken) (sym (c .before .is-before .ensures) ∙ c .if1 .left)) ∙ m .inv .2)
 
 search-again : tie.Need-search-again Inv-loop μ-loop Inv-search μ-search
 search-again c =
+    let at-search-test = c .before .before .before in
+    let at-search = at-search-test .before in
     let m = c .before .loop in
-    let o = c .before .before .before .before .search in (
+    let o = at-search .search in (
       search needs,
       m .inv .1 ∙ o .inv .1,
-      sym (walk.in-time _ _ (o .p) (c .before .before .before .search-test .taken) (sym (m .inv .2) ∙ walk.none-left _ _ _ (m .q) (c .loop-test .left))) ∙ o .inv .2,
+      sym (walk.in-time _ _ (o .p) (at-search-test .search-test .taken) (sym (m .inv .2) ∙ walk.none-left _ _ _ (m .q) (c .loop-test .left))) ∙ o .inv .2,
     )
 
 returns : tie.Need-returns Inv-loop μ-loop Inv-search μ-search
@@ -52,10 +56,14 @@ returns c =
 
 returns-2 : tie.Need-returns-2 Inv-loop μ-loop Inv-search μ-search
 returns-2 c =
-    let m = c .before .before .before .before .loop in
-    let o = c .before .before .before .before .before .before .before .search in
-    sym (sym (o .inv .2) ∙ walk.early-here _ _ (o .p) (c .before .before .before .before .before .before .search-test .taken)
-    (sym (m .inv .2) ∙ walk.found _ _ _ (m .q) (c .before .before .before .loop-test .taken) (sym (c .before .is-before .ensures) ∙ c .if1 .taken)))
+    let at-loop-test = c .before .before .before in
+    let at-loop = at-loop-test .before in
+    let at-search-test = at-loop .before .before in
+    let at-search = at-search-test .before in
+    let m = at-loop .loop in
+    let o = at-search .search in
+    sym (sym (o .inv .2) ∙ walk.early-here _ _ (o .p) (at-search-test .search-test .taken)
+    (sym (m .inv .2) ∙ walk.found _ _ _ (m .q) (at-loop-test .loop-test .taken) (sym (c .before .is-before .ensures) ∙ c .if1 .taken)))
 
 pub first-early-spec : {M : Type 1} → statement M
 first-early-spec =

@@ -170,7 +170,7 @@ loop-again c =
     let q = worked (passed a) in
     let l = turn q .before .loop in
     let s = pass-done a in
-    (l .inv .0, run-turn _ _ _ _ _ _ _ _ (l .inv .1) (turn q .loop-test .taken) (known (q .before .before .before)) _ _ _ (omega (arith, s .most)) (s .size) (none-put s (c .enum-told .given .1)) (s .reply))
+    (l .inv .0, run-turn _ _ _ _ _ _ _ _ (l .inv .1) (turn q .loop-test .taken) (known (q .before .before .before)) _ _ _ (omega (arith, s .most)) (s .size) (none-put s (c .enum-told .given .1)) (s .answered))
 
 -- ---- a row is put in
 -- there is room for it among the rows that the pass left
@@ -268,7 +268,7 @@ loop-again-2 c =
     let p = search-end _ _ _ _ (found .inv) (m .before .before .if1 .left) in
     let more = bounds (found .search .at) k (passed a .loop2 .rows) _ _ (found .search .same) (made .ensures) (s .size) (omega (arith, found .inv .within)) .2 in
     let stored = shift-end (found .search .at) k _ _ _ (found .search .same) (made .ensures) (s .size) _ _ (m .loop4 .inv) (fits a) (c .loop4-test .left) _ p in
-    (l .inv .0, run-turn _ _ _ _ _ _ _ _ (l .inv .1) (turn q .loop-test .taken) (known (q .before .before .before)) _ _ _ (omega (arith, s .most, more)) (simp length-set (m .loop4 .inv .size)) (stored ∙ one-put s (at-loop .before .before .left .given .1)) (s .reply))
+    (l .inv .0, run-turn _ _ _ _ _ _ _ _ (l .inv .1) (turn q .loop-test .taken) (known (q .before .before .before)) _ _ _ (omega (arith, s .most, more)) (simp length-set (m .loop4 .inv .size)) (stored ∙ one-put s (at-loop .before .before .left .given .1)) (s .answered))
 
 returns : tie.Need-returns Inv-loop2 μ-loop2 Inv-loop3 μ-loop3 Inv-loop4 μ-loop4 Inv-loop μ-loop
 returns c =

@@ -1,3 +1,5 @@
+-- The line of an event: nothing for a silent answer, else `ev=`, its number, the answer's item and LF, each put behind the one before.
+-- Assumes nothing.
 use mathlib.Core.Path.{sym, _∙_}
 use native.Mathlib.Omega.{arith}
 use borrow.Author.Needs.{needs}

@@ -1,3 +1,5 @@
+-- The item of a hit: its priority, how many entries fit at it and the action, each put behind the one before.
+-- Assumes nothing.
 use native.Mathlib.Omega.{arith}
 use borrow.Author.Needs.{needs}
 use Rattle.text_numbers.proofs.Writing.{put-then, print-length}

@@ -1,3 +1,5 @@
+-- The item of an answer, by its form.
+-- Assumes nothing.
 use borrow.Author.Needs.{needs}
 use Rattle.text_numbers.proofs.Writing.{put-none}
 use Rattle.replay_answers.specs.Answers.{printItem}

@@ -16,7 +16,9 @@ returns c = rw (c .before .before .answer .given .1, lt-ltb _ _ (c .if1 .taken))
 
 add-t12 : tie.Need-add-t12
 add-t12 c =
-    let h = rw (c .before .before .before .answer .given .1) at (c .before .before .before .before .before .before .before .pre) in
+    let at-answer = c .before .before .before in
+    let at-start = at-answer .before .before .before .before in
+    let h = rw (at-answer .answer .given .1) at (at-start .pre) in
     omega arith
 
 returns-2 : tie.Need-returns-2

@@ -1,20 +1,20 @@
 use mathlib.Core.Path.{refl}
 use borrow.Author.Needs.{needs}
-use Rattle.rows_step.specs.Stepping.{stepRows, replyRows}
+use Rattle.rows_step.specs.Stepping.{stepRows, answerRows}
 use Rattle.rows_step.proofs.Works.{putting-work}
 use Rattle.rows_step.proofs.work.work_of.Statement.{statement}
 use Rattle.rows_step.proofs.work.work_of.Tie as tie
 
 returns : tie.Need-returns
-unfolding stepRows replyRows
+unfolding stepRows answerRows
 returns c = rw (c .before .enum-told .given .1, c .putting .ensures) (putting-work _ _ (λ rs. refl) (λ rs. refl))
 
 returns-2 : tie.Need-returns-2
-unfolding stepRows replyRows
+unfolding stepRows answerRows
 returns-2 c = rw (c .before .enum-told2 .given .1, c .putting2 .ensures) (putting-work _ _ (λ rs. refl) (λ rs. refl))
 
 returns-3 : tie.Need-returns-3
-unfolding stepRows replyRows
+unfolding stepRows answerRows
 returns-3 c = rw (c .before .enum-told3 .given .1, c .putting3 .ensures) (putting-work _ _ (λ rs. refl) (λ rs. refl))
 
 returns-4 : tie.Need-returns-4

@@ -36,14 +36,16 @@ add-at c =
 
 loop-again : tie.Need-loop-again Inv-loop μ-loop
 loop-again c =
-    let in-loop = c .before .before .before .before .before .before in
+    let at-put-row = c .before .before in
+    let at-place-in = at-put-row .before .before in
+    let in-loop = at-place-in .before .before in
     let m = in-loop .before .loop in
-    let q = put-from (c .before .before .before .before .place-in .ensures) (c .before .before .put-row .ensures) in (
+    let q = put-from (at-place-in .place-in .ensures) (at-put-row .put-row .ensures) in (
       omega arith,
       m .inv .1,
       m .inv .2,
       put-length q ∙ m .inv .3,
-      omega (arith, m .inv .4, line-room _ _ _ _ (c .before .before .put-row .ensures)),
+      omega (arith, m .inv .4, line-room _ _ _ _ (at-put-row .put-row .ensures)),
       normal-more _ _ _ _ (in-loop .loop-test .taken) (omega (arith, m .inv .1, m .inv .2)) (m .inv .5) q,
     )
 

@@ -33,17 +33,24 @@ here a = lined _ _ (a .before .before .loop-test .taken) _ (a .before .line-at .
 
 returns : tie.Need-returns Inv-loop μ-loop
 returns c =
-    let a = c .before .before .before .before in
-    (rest-refused _ _ _ _ _ (a .before .before .before .loop .inv .1) _ _ (here a) _ (seen asRow (c .before .before .before .row-line .ensures) (c .before .read .given .1)), omega arith)
+    let at-row-line = c .before .before .before in
+    let a = at-row-line .before in
+    (rest-refused _ _ _ _ _ (a .before .before .before .loop .inv .1) _ _ (here a) _ (seen asRow (at-row-line .row-line .ensures) (c .before .read .given .1)), omega arith)
 
 mul-row : tie.Need-mul-row Inv-loop μ-loop
-mul-row c = let at-loop = c .before .before .before .before .before .before .before in omega (arith, at-loop .loop .inv .0)
+mul-row c =
+    let at-place-7 = c .before .before .before .before .before .before .before in
+    let at-loop = at-place-7 in omega (arith, at-loop .loop .inv .0)
 
 element-set-from-row : tie.Need-element-set-from-row Inv-loop μ-loop
-element-set-from-row c = let at-loop = c .before .before .before .before .before .before .before in omega (arith, at-loop .loop .inv .0)
+element-set-from-row c =
+    let at-place-7 = c .before .before .before .before .before .before .before in
+    let at-loop = at-place-7 in omega (arith, at-loop .loop .inv .0)
 
 add-rows : tie.Need-add-rows Inv-loop μ-loop
-add-rows c = let at-loop = c .before .before .before .before .before .before .before in omega (arith, at-loop .loop .inv .0)
+add-rows c =
+    let at-place-7 = c .before .before .before .before .before .before .before in
+    let at-loop = at-place-7 in omega (arith, at-loop .loop .inv .0)
 
 loop-less : tie.Need-loop-less Inv-loop μ-loop
 loop-less c =
@@ -52,7 +59,8 @@ loop-less c =
 
 loop-again : tie.Need-loop-again Inv-loop μ-loop
 loop-again c =
-    let a = c .before .before .before .before in
+    let at-row-line = c .before .before .before in
+    let a = at-row-line .before in
     let l = a .before .before in
     let m = l .before .loop in
     let k = m .rows .len in
@@ -61,7 +69,7 @@ loop-again c =
     let more : take (k + 1) (set (m .rows .rows) k r) ≡ take k (m .rows .rows) ++ (r ∷ []) =
     ap (λ j. take j (set (m .rows .rows) k r)) (add-one k) ∙ take-suc-set (m .rows .rows) k r (omega (arith, m .inv .0, m .inv .2, left)) in (
       omega (arith, m .inv .0, left),
-      rw more (rest-read _ _ _ _ _ (m .inv .1) _ _ (here a) _ (seen asRow (c .before .before .before .row-line .ensures) (c .before .read2 .given .1))),
+      rw more (rest-read _ _ _ _ _ (m .inv .1) _ _ (here a) _ (seen asRow (at-row-line .row-line .ensures) (c .before .read2 .given .1))),
       simp length-set (m .inv .2),
     )
 

@@ -11,7 +11,8 @@ returns c =
 
 returns-2 : tie.Need-returns-2
 returns-2 c =
-    let r = c .before .before .before .before .read-rows .ensures in
+    let at-read-rows = c .before .before .before .before in
+    let r = at-read-rows .read-rows .ensures in
     (c .sort-rows .ensures .0 ∙ lines-read _ _ _ (r .0) (c .before .enum-told2 .given .1), c .sort-rows .ensures .1)
 
 pub read-sorted-spec : {M : Type 1} → statement M

@@ -16,8 +16,10 @@ returns c =
 
 returns-2 : tie.Need-returns-2
 returns-2 c =
-    let read = c .before .before .before .before .read-lines in
-    (c .check-tokens .ensures ∙ on-accepted _ _ checkTokens (read .ensures .0) (c .before .before .enum-told2 .given .1), read .ensures .1)
+    let at-enum-told2 = c .before .before in
+    let at-read-lines = at-enum-told2 .before .before in
+    let read = at-read-lines .read-lines in
+    (c .check-tokens .ensures ∙ on-accepted _ _ checkTokens (read .ensures .0) (at-enum-told2 .enum-told2 .given .1), read .ensures .1)
 
 pub read-events-spec : {M : Type 1} → statement M
 read-events-spec =

@@ -37,17 +37,24 @@ room a =
 
 returns : tie.Need-returns Inv-loop μ-loop
 returns c =
-    let a = c .before .before .before .before in
-    (rest-refused _ _ _ _ _ (a .before .before .before .loop .inv .1) _ _ (here a) _ (seen asEvent (c .before .before .before .event-line .ensures) (c .before .read .given .1)), omega (arith, room a))
+    let at-event-line = c .before .before .before in
+    let a = at-event-line .before in
+    (rest-refused _ _ _ _ _ (a .before .before .before .loop .inv .1) _ _ (here a) _ (seen asEvent (at-event-line .event-line .ensures) (c .before .read .given .1)), omega (arith, room a))
 
 mul-e : tie.Need-mul-e Inv-loop μ-loop
-mul-e c = omega (arith, room (c .before .before .before .before))
+mul-e c =
+    let at-place-4 = c .before .before .before .before in
+    omega (arith, room (at-place-4))
 
 element-set-from-e : tie.Need-element-set-from-e Inv-loop μ-loop
-element-set-from-e c = omega (arith, room (c .before .before .before .before))
+element-set-from-e c =
+    let at-place-4 = c .before .before .before .before in
+    omega (arith, room (at-place-4))
 
 add-trace : tie.Need-add-trace Inv-loop μ-loop
-add-trace c = omega (arith, room (c .before .before .before .before))
+add-trace c =
+    let at-place-4 = c .before .before .before .before in
+    omega (arith, room (at-place-4))
 
 loop-less : tie.Need-loop-less Inv-loop μ-loop
 loop-less c =
@@ -57,12 +64,13 @@ loop-less c =
 loop-again : tie.Need-loop-again Inv-loop μ-loop
 unfolding eventsOf
 loop-again c =
-    let a = c .before .before .before .before in
+    let at-event-line = c .before .before .before in
+    let a = at-event-line .before in
     let l = a .before .before in
     let m = l .before .loop in (
       omega (arith, m .inv .0, lines-left _ _ (l .loop-test .taken) _ (a .before .line-at .ensures) _ (a .after-line .ensures)),
       rw (pushed (m .trace .events) (m .trace .len) (c .before .read2 .given .0 .0) (omega (arith, room a, m .inv .2)))
-          (rest-read _ _ _ _ _ (m .inv .1) _ _ (here a) _ (seen asEvent (c .before .before .before .event-line .ensures) (c .before .read2 .given .1))),
+          (rest-read _ _ _ _ _ (m .inv .1) _ _ (here a) _ (seen asEvent (at-event-line .event-line .ensures) (c .before .read2 .given .1))),
       simp length-set (m .inv .2),
     )
 

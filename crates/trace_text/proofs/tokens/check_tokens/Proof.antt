@@ -27,22 +27,27 @@ loop-holds c = (omega arith, search (needs, length-mapped), refl, refl)
 
 loop-again : tie.Need-loop-again Inv-loop μ-loop
 loop-again c =
-    let p = c .before .before .before .before .before in
+    let at-refused-if2 = c .before .before in
+    let at-puts-out2 = at-refused-if2 .before in
+    let at-refused-if = at-puts-out2 .before in
+    let p = at-refused-if .before in
     let l = p .before .before .before .before in
     let m = l .before .loop in
     let o = l .before .before .all-outs in
     let within = l .loop-test .taken in (
       omega arith,
       m .inv .1,
-      placed-more _ _ _ (m .inv .2) (twice-test _ (o .result) (o .ensures) _ within (p .puts-out .ensures)) (c .before .before .before .before .refused-if .ensures) (c .before .first-of .ensures),
-      placed-more _ _ _ (m .inv .3) (early-test _ (o .result) (o .ensures) _ within (omega arith) (c .before .before .before .puts-out2 .ensures)) (c .before .before .refused-if2 .ensures) (c .first-of2 .ensures),
+      placed-more _ _ _ (m .inv .2) (twice-test _ (o .result) (o .ensures) _ within (p .puts-out .ensures)) (at-refused-if .refused-if .ensures) (c .before .first-of .ensures),
+      placed-more _ _ _ (m .inv .3) (early-test _ (o .result) (o .ensures) _ within (omega arith) (at-puts-out2 .puts-out2 .ensures)) (at-refused-if2 .refused-if2 .ensures) (c .first-of2 .ensures),
     )
 
 returns : tie.Need-returns Inv-loop μ-loop
 returns c =
-    let l = c .before .before .loop in
-    let t = c .before .before .before .before .args .t1 in
-    let fits : t .len ≤ length (t .events) = omega (arith, c .before .before .before .before .pre) in
+    let at-loop = c .before .before in
+    let at-start = at-loop .before .before in
+    let l = at-loop .loop in
+    let t = at-start .args .t1 in
+    let fits : t .len ≤ length (t .events) = omega (arith, at-start .pre) in
     tokens-checked _ (l .k) (omega (arith, length-events t fits)) (l .inv .2) (l .inv .3) (c .first-of3 .ensures)
 
 pub check-tokens-spec : {M : Type 1} → statement M

@@ -31,8 +31,9 @@ loop-again c =
 
 returns-2 : tie.Need-returns-2 Inv-loop μ-loop
 returns-2 c =
+    let at-start = c .before .before .before .before in
     let l = c .before .loop .inv in
-    let done : c .before .loop .k ≡ c .before .before .before .before .args .to = omega arith in
+    let done : c .before .loop .k ≡ at-start .args .to = omega arith in
     l .3 ∙ ap (putsOut _ _ _) done
 
 pub puts-out-spec : {M : Type 1} → statement M

@@ -1,4 +1,4 @@
--- What running an order gives.
+-- Inner: what running an order gives.
 use mathlib.Core.Path.{_≡_}
 use mathlib.Core.List.{List}
 use Prim.Native.Nat.{ℕ, _+_, _≤_}

@@ -41,7 +41,7 @@ more-reads (suc k) last [] o l s at rest e h =
     rw (n, add-zero)
 more-reads (suc k) last (t ∷ ts) (l, b, o) m s at rest e h =
     let c : getD s at 0 ≡ 44 = here s at ∙ rw h refl in
-    let d : drop (at + 1) s ≡ printNumber t ++ (printMore ts ++ rest) = behind (bytes ",") (printNumber t ++ (printMore ts ++ rest)) s at (h ∙ rw append-assoc refl) in
+    let d : drop (at + 1) s ≡ printNumber t ++ (printMore ts ++ rest) = behind (bytes ",") (printNumber t ++ (printMore ts ++ rest)) s at (h ∙ ap (λ (l : List ℕ). 44 ∷ l) (append-assoc (printNumber t) (printMore ts) rest)) in
     let r : readNumber 65535 s (at + 1) ≡ some (t, at + 1 + length (printNumber t)) = number-reads 65535 t s (at + 1) (printMore ts ++ rest) b (omega arith) (more-digit ts rest e) d in
     let n : nextToken last s at ≡ NextToken.Token t (at + 1 + length (printNumber t)) = next-above last s at c r l in
     let i : readMore k t s (at + 1 + length (printNumber t)) ≡ some (ts, at + 1 + length (printNumber t) + length (printMore ts)) =
@@ -91,7 +91,7 @@ more-only (suc k) last s at ts n e =
     rw (← x, ← y) (
       ((l, b, o .0), omega (arith, o .1)),
       drop-cons s at 0 f ∙ rw (c, v, u) (ap (λ (l : List ℕ). 44 ∷ l) (sym (append-assoc (printNumber t) (printMore us) (drop j s)))),
-      i ∙ rw (z, length-append) (omega arith),
+      i ∙ rw z (omega (arith, length-append (bytes ",") (printNumber t ++ printMore us), length-append (printNumber t) (printMore us))),
     )) p) e
 
 -- ---- the whole list

@@ -1,33 +1,8 @@
-use Rattle.flow_table.specs.FlowTable.{pkt}
 use Rattle.commuting.specs.Commuting.{commutes}
 use Rattle.commuting_pairs.proofs.Arms.{second-table-arm}
 use borrow.Author.Needs.{needs}
 use Rattle.commuting_pairs.proofs.table_operation.packet_with.Statement.{statement}
 use Rattle.commuting_pairs.proofs.table_operation.packet_with.Tie as tie
 
-returns-2 : tie.Need-returns-2
-unfolding commutes
-returns-2 c = let a = c .before .before .before .before .args in second-table-arm (pkt (a .p)) (c .before .before .other .given .1) (c .packet-write .ensures)
-
-returns-3 : tie.Need-returns-3
-unfolding commutes
-returns-3 c = let a = c .before .before .before .before .args in second-table-arm (pkt (a .p)) (c .before .before .other2 .given .1) (c .packet-write2 .ensures)
-
-returns-4 : tie.Need-returns-4
-unfolding commutes
-returns-4 c = let a = c .before .before .before .before .args in second-table-arm (pkt (a .p)) (c .before .before .other3 .given .1) (c .packet-write3 .ensures)
-
-returns-5 : tie.Need-returns-5
-unfolding commutes
-returns-5 c = let a = c .before .before .before .before .args in second-table-arm (pkt (a .p)) (c .before .before .other4 .given .1) (c .packet-write4 .ensures)
-
-returns-6 : tie.Need-returns-6
-unfolding commutes
-returns-6 c = let a = c .before .before .before .before .args in second-table-arm (pkt (a .p)) (c .before .before .other5 .given .1) (c .packet-write5 .ensures)
-
-returns-7 : tie.Need-returns-7
-unfolding commutes
-returns-7 c = let a = c .before .before .before .before .args in second-table-arm (pkt (a .p)) (c .before .before .other6 .given .1) (c .packet-write6 .ensures)
-
 pub packet-with-spec : {M : Type 1} → statement M
-packet-with-spec = tie.close (tie.spec (λ c. search needs) (λ c. search needs) (λ c κs. search needs) (λ c. search needs) (λ c κs. search needs) (λ c. search needs) (λ c κs. search needs) (λ c. search needs) (λ c κs. search needs) (λ c. search needs) (λ c κs. search needs) (λ c. search needs) (λ c κs. search needs) (λ c. unfold commutes in search (needs, second-table-arm)) returns-2 returns-3 returns-4 returns-5 returns-6 returns-7)
+packet-with-spec = tie.close (tie.spec (λ c. search needs) (λ c. search needs) (λ c κs. search needs) (λ c. search needs) (λ c κs. search needs) (λ c. search needs) (λ c κs. search needs) (λ c. search needs) (λ c κs. search needs) (λ c. search needs) (λ c κs. search needs) (λ c. search needs) (λ c κs. search needs) (λ c. unfold commutes in search (needs, second-table-arm)) (λ c. unfold commutes in search (needs, second-table-arm)) (λ c. unfold commutes in search (needs, second-table-arm)) (λ c. unfold commutes in search (needs, second-table-arm)) (λ c. unfold commutes in search (needs, second-table-arm)) (λ c. unfold commutes in search (needs, second-table-arm)) (λ c. unfold commutes in search (needs, second-table-arm)))

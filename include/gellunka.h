@@ -4,7 +4,7 @@
  * Link with target/staticlib/libexports.a, which `rt staticlib exports` builds.
  *
  * What is promised of each call below is proved of its source (crates/exports); "document 01" is the
- * specification that README.md speaks of. It holds for every input, so nothing is asked of the bytes that
+ * specification, docs/SPECIFICATION.md. It holds for every input, so nothing is asked of the bytes that
  * are passed. What C must see to, as with any function that takes buffers:
  *
  *   - a pointer points to at least as many bytes as the length after it says, and is not NULL even

@@ -4,10 +4,10 @@
 //! switch whose order was open and matters, [`normalise`] brings the text of flow tables into a normal form, and
 //! [`replay`] tells what an order of the events does to given tables.
 //!
-//! The work is done by a static library whose source is proved against definitions of the specification,
-//! document 01 (`crates/exports` of the repository). What is said below of results, refusals and buffers is
-//! proved for every input. This crate declares its functions and gives their answers Rust's types; that part,
-//! and the lengths [`LIST_ROOM`] to [`ANSWERS_ROOM`], are tested and not proved.
+//! The work is done by a static library whose source (`crates/exports` of the repository) is proved against
+//! definitions of the specification, document 01 (`docs/SPECIFICATION.md`). What is said below of results,
+//! refusals and buffers is proved for every input. This crate declares its functions and gives their answers
+//! Rust's types; that part, and the lengths [`LIST_ROOM`] to [`ANSWERS_ROOM`], are tested and not proved.
 //!
 //! A call allocates nothing and takes up to 1 MB of stack.
 //!

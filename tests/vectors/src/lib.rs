@@ -5,6 +5,7 @@
 pub mod commuting;
 pub mod counting;
 pub mod damage;
+pub mod drawn;
 pub mod flow;
 pub mod items;
 pub mod notation;

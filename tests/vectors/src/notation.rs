@@ -16,6 +16,7 @@
 //! - `raw TEXT`: any line, with escapes (see [`bytes_of`]);
 //! - `order 0 2 1`: an order, a byte for each event; `orders N`: all orders of N events, rising;
 //! - `for i = A..B: LINE ; LINE`: lines with a counter (see [`repeated`]);
+//! - `random 24 events of 3 switches, seed 7`: a text drawn at random (see [`drawn`]);
 //! - `as NAME`: the lines of an earlier file or text.
 //!
 //! Each line is ended by LF. Further statements:
@@ -27,6 +28,7 @@
 
 use crate::counting::repeated;
 use crate::damage::{bytes_of, damaged};
+use crate::drawn::drawn;
 use crate::items::{self, number};
 use cases::orders::all_orders;
 use cases::print::{entry_line, event_line};
@@ -144,6 +146,7 @@ impl Reader {
                 let words = self.words_of(rest).join(" ");
                 return writes(&words).iter().try_for_each(|line| self.add(line));
             }
+            "random" => drawn(rest)?.into_iter().try_for_each(|line| self.push(line.into_bytes()))?,
             "raw" => self.push(bytes_of(rest)?)?,
             "order" => self.push(numbers(rest)?)?,
             "orders" => {

@@ -11,6 +11,7 @@ pub mod items;
 pub mod notation;
 pub mod printed;
 pub mod sources;
+pub mod text;
 pub mod tree;
 
 use notation::{Case, Kind, Reader};

@@ -30,6 +30,7 @@ use crate::counting::repeated;
 use crate::damage::{bytes_of, damaged};
 use crate::drawn::drawn;
 use crate::items::{self, number};
+use crate::text::Text;
 use cases::orders::all_orders;
 use cases::print::{entry_line, event_line};
 use std::collections::BTreeMap;
@@ -43,7 +44,14 @@ pub struct Case {
     pub title: String,
     /// What it is for.
     pub kind: Kind,
-    lines: Vec<Line>,
+    text: Text,
+}
+
+impl Case {
+    /// The text itself.
+    pub fn bytes(&self) -> Vec<u8> {
+        self.text.bytes()
+    }
 }
 
 /// What a text is for.
@@ -55,26 +63,6 @@ pub enum Kind {
     Named,
     /// Lines for other texts.
     Text,
-}
-
-#[derive(Clone, Debug, PartialEq, Eq)]
-struct Line {
-    bytes: Vec<u8>,
-    ended: bool,
-}
-
-impl Case {
-    /// The text itself.
-    pub fn bytes(&self) -> Vec<u8> {
-        let mut bytes = Vec::new();
-        for line in &self.lines {
-            bytes.extend(&line.bytes);
-            if line.ended {
-                bytes.push(b'\n');
-            }
-        }
-        bytes
-    }
 }
 
 /// The texts of the files of a notation, read one after the other.
@@ -129,72 +117,64 @@ impl Reader {
             return Err(format!("`{name}` is there already"));
         }
         let (name, title) = (name.to_owned(), title.to_owned());
-        self.cases.push(Case { name, title, kind, lines: Vec::new() });
+        self.cases.push(Case { name, title, kind, text: Text::default() });
         Ok(())
     }
 
-    /// Adds to the last text.
+    /// The last text.
+    fn text(&mut self) -> Result<&mut Text, String> {
+        Ok(&mut self.cases.last_mut().ok_or("no text was started")?.text)
+    }
+
+    /// Adds to the last text, or changes it.
     fn add(&mut self, statement: &str) -> Result<(), String> {
         let (word, rest) = first_word(statement);
         match word {
             "for" => return repeated(rest)?.iter().try_for_each(|line| self.add(line)),
+            "writes" => return self.writes(rest).iter().try_for_each(|line| self.add(line)),
             "as" => {
-                let lines = self.cases.iter().find(|case| case.name == rest).map(|case| case.lines.clone());
-                self.lines()?.extend(lines.ok_or_else(|| format!("there is no `{rest}` yet"))?);
+                let earlier = self.cases.iter().find(|case| case.name == rest);
+                let text = earlier.ok_or_else(|| format!("there is no `{rest}` yet"))?.text.clone();
+                self.text()?.append(text);
             }
-            "writes" => {
-                let words = self.words_of(rest).join(" ");
-                return writes(&words).iter().try_for_each(|line| self.add(line));
-            }
-            "random" => drawn(rest)?.into_iter().try_for_each(|line| self.push(line.into_bytes()))?,
-            "raw" => self.push(bytes_of(rest)?)?,
-            "order" => self.push(numbers(rest)?)?,
+            "raw" => self.text()?.push(bytes_of(rest)?),
+            "order" => self.text()?.push(numbers(rest)?),
             "orders" => {
-                let mut orders = all_orders(number(rest).ok_or("`orders` is followed by a number")?);
+                let mut orders = all_orders(first_number(rest)?.0);
                 orders.sort_unstable();
-                orders.into_iter().try_for_each(|order| self.push(order))?;
+                let text = self.text()?;
+                orders.into_iter().for_each(|order| text.push(order));
+            }
+            "random" => {
+                let text = self.text()?;
+                drawn(rest)?.into_iter().for_each(|line| text.push(line.into_bytes()));
             }
             "fill" => {
-                let (times, text) = first_word(rest);
-                let times = number(times).ok_or("`fill` is followed by a number")?;
-                self.lines()?.push(Line { bytes: bytes_of(text)?.repeat(times), ended: false });
+                let (times, text) = first_number(rest)?;
+                self.text()?.push_bytes(bytes_of(text)?.repeat(times));
             }
-            "no-lf" => self.lines()?.last_mut().ok_or("there is no line")?.ended = false,
+            "no-lf" => self.text()?.drop_lf()?,
             "line" => self.change_line(rest)?,
-            "pick" => {
-                let lines = self.lines()?.clone();
-                let pick =
-                    |place: usize| lines.get(place).cloned().ok_or(format!("there is no line {place}"));
-                *self.lines()? = numbers(rest)?.into_iter().map(pick).collect::<Result<_, _>>()?;
-            }
-            "reversed" => self.lines()?.reverse(),
+            "pick" => self.text()?.pick(&numbers(rest)?)?,
+            "reversed" => self.text()?.reverse(),
             _ => {
-                let place = self.lines()?.len();
+                let place = self.text()?.count();
                 let line = self.printed(place, statement)?;
-                self.push(line)?;
+                self.text()?.push(line);
             }
         }
-        Ok(())
-    }
-
-    fn lines(&mut self) -> Result<&mut Vec<Line>, String> {
-        Ok(&mut self.cases.last_mut().ok_or("no text was started")?.lines)
-    }
-
-    fn push(&mut self, bytes: Vec<u8>) -> Result<(), String> {
-        self.lines()?.push(Line { bytes, ended: true });
         Ok(())
     }
 
     /// `N: LINE`, or `N | CHANGE`.
     fn change_line(&mut self, statement: &str) -> Result<(), String> {
         let (place, rest) = statement.split_at(statement.find([':', ' ']).unwrap_or(statement.len()));
-        let place: usize = number(place).ok_or("`line` is followed by a number")?;
-        let old = self.lines()?.get(place).ok_or_else(|| format!("there is no line {place}"))?.bytes.clone();
-        self.lines()?[place].bytes = match rest.strip_prefix(':') {
+        let (place, _) = first_number(place)?;
+        let line = match rest.strip_prefix(':') {
             Some(line) => self.printed(place, line)?,
-            None => rest.split(" | ").skip(1).try_fold(old, |line, change| damaged(&line, change.trim()))?,
+            None => changed(self.text()?.line(place)?, rest.split(" | ").skip(1))?,
         };
+        *self.text()?.line(place)? = line;
         Ok(())
     }
 
@@ -209,7 +189,20 @@ impl Reader {
                 entry_line(switch, entry)
             }
         };
-        parts.try_fold(line.into_bytes(), |line, change| damaged(&line, change.trim()))
+        changed(line.as_bytes(), parts)
+    }
+
+    /// The six writes, each with those of some items that it has.
+    fn writes(&self, items: &str) -> Vec<String> {
+        let words = self.words_of(items);
+        let line = |(word, without): (&str, &[&str])| {
+            let has = |item: &&str| !without.iter().any(|key| item.starts_with(key));
+            let items = words.iter().copied().filter(has);
+            std::iter::once(word).chain(items).collect::<Vec<_>>().join(" ")
+        };
+        let entry_writes = ["add", "addc", "mods", "modn"].map(|word| line((word, &[])));
+        let deletes = [line(("dels", &["act="])), line(("deln", &["prio=", "act="]))];
+        entry_writes.into_iter().chain(deletes).collect()
     }
 
     /// The words of a text, each with what it stands for.
@@ -243,16 +236,15 @@ pub fn first_word(text: &str) -> (&str, &str) {
     (word, rest.trim_start())
 }
 
-/// The six writes, each with those of some items that it has.
-fn writes(items: &str) -> [String; 6] {
-    let (entry, key, pattern): (&[&str], &[&str], &[&str]) = (&[], &["act="], &["prio=", "act="]);
-    let words =
-        [("add", entry), ("addc", entry), ("mods", entry), ("modn", entry), ("dels", key), ("deln", pattern)];
-    words.map(|(word, without)| {
-        let has = |item: &&str| !without.iter().any(|key| item.starts_with(key));
-        let items = items.split_whitespace().filter(has);
-        std::iter::once(word).chain(items).collect::<Vec<_>>().join(" ")
-    })
+/// A printed line with its damage.
+fn changed<'a>(line: &[u8], mut changes: impl Iterator<Item = &'a str>) -> Result<Vec<u8>, String> {
+    changes.try_fold(line.to_vec(), |line, change| damaged(&line, change.trim()))
+}
+
+/// The number that a text starts with, and what follows it.
+fn first_number(text: &str) -> Result<(usize, &str), String> {
+    let (word, rest) = first_word(text);
+    number(word).map(|number| (number, rest)).ok_or_else(|| format!("`{word}` is no number"))
 }
 
 /// Whole numbers with blanks between.

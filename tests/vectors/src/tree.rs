@@ -62,7 +62,7 @@ pub fn differences(root: &Path, files: &[File]) -> io::Result<Vec<String>> {
     }
     let expected: BTreeSet<&str> = files.iter().map(|file| file.path.as_str()).collect();
     let surplus = stored(root)?.into_iter().filter(|path| !expected.contains(path.as_str()));
-    lines.extend(surplus.map(|path| format!("{path} stands in no case file")));
+    lines.extend(surplus.map(|path| format!("{path} is surplus")));
     Ok(lines)
 }
 
@@ -138,8 +138,8 @@ mod tests {
         let wanted = [
             "crates/some_test/data/00 differs (a title)",
             "examples/some differs (a title)",
-            "crates/some_test/data/01 stands in no case file",
-            "crates/some_test/stdin stands in no case file",
+            "crates/some_test/data/01 is surplus",
+            "crates/some_test/stdin is surplus",
         ];
         assert_eq!(check(), wanted);
         write(&root, &files).unwrap();

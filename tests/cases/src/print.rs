@@ -13,8 +13,13 @@ pub fn trace_text(events: &[Event]) -> Vec<u8> {
 
 /// The text of tables with some entries, in the order given.
 pub fn tables_text(entries: &[(u8, Entry)]) -> Vec<u8> {
-    let line = |&(switch, entry)| format!("sw={switch} {}\n", EntryItems(entry));
+    let line = |&(switch, entry)| entry_line(switch, entry) + "\n";
     entries.iter().map(line).collect::<String>().into_bytes()
+}
+
+/// The line of an entry of a switch, without its LF.
+pub fn entry_line(switch: u8, entry: Entry) -> String {
+    format!("sw={switch} {}", EntryItems(entry))
 }
 
 /// The line of an event, without its LF.

@@ -56,7 +56,7 @@ pub fn replayed(trace: &[u8], tables: &[u8], order: Option<&[u8]>) -> Vec<u8> {
 }
 
 /// `refused=4 place=2`, then the refused line, where the place is a line.
-fn refused(refusal: &Refusal) -> Vec<u8> {
+pub fn refused(refusal: &Refusal) -> Vec<u8> {
     let mut text = format!("refused={} place={}\n", refusal.number, refusal.place).into_bytes();
     if refusal.has_line() {
         text.extend_from_slice(refusal.line);

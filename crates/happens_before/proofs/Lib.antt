@@ -1,3 +1,4 @@
 pub mod Chains
 pub mod SetLaws
 pub mod RowLaws
+pub mod SideNotes

@@ -1,6 +1,7 @@
 // The rows of happens-before: row j is the set of the events before event j.
 use crate::sets::contains;
 use crate::sets::join_if;
+use trace_events::Side;
 use trace_events::Trace;
 ghost use mathlib.Core.Path.{_≡_};
 ghost use Prim.Native.Nat.{_≤_};
@@ -8,17 +9,25 @@ ghost use Rattle.trace_events.specs.Events.{eventsOf};
 ghost use Rattle.happens_before.specs.Inner.{bit, HappensBefore};
 
 // For each event the set of those before it: the union of its direct predecessors and their rows, which are filled already. Past the
-// last event the rows stay empty. Both loops stand here, since an inner call would copy the events at each turn.
+// last event the rows stay empty. Both loops stand here, since an inner call would copy the events at each turn; of most pairs the two
+// sides tell that the earlier event does not directly precede the later one.
 pub fn happens_before(t: Trace) -> [[u64; 4]; 256]
     requires { ⌜ t .len ≤ 256 ⌝ }
     ensures { λ r. ⌜ HappensBefore (eventsOf t) r ⌝ }
 {
     let n = t.len;
     let mut rows = [[0u64; 4]; 256];
+    let none = Side::none();
+    let mut sides = [none; 256];
     for j in 0..n {
         let second = t.events[j];
+        let later = second.side();
         let mut set = [0u64; 4];
         for k in 0..j {
+            let side = sides[k];
+            if !side.maybe_before(later) {
+                continue;
+            }
             let first = t.events[k];
             let row = rows[k];
             let precedes = first.precedes(second);
@@ -26,6 +35,7 @@ pub fn happens_before(t: Trace) -> [[u64; 4]; 256]
             set = next;
         }
         rows[j] = set;
+        sides[j] = later;
     }
     rows
 }

@@ -1,5 +1,5 @@
 -- The list call's answer and its buffer, by the two paths through the code. Assumes nothing.
-use Prim.Native.Nat.{ℕ, _<_, _≤_}
+use Prim.Native.Nat.{ℕ, _*_, _<_, _≤_}
 use native.Mathlib.Omega.{arith}
 use mathlib.Core.Path.{_≡_, refl, sym, ap, _∙_}
 use mathlib.Core.List.{List, _++_}
@@ -13,28 +13,28 @@ use Rattle.trace_text.specs.Inner.{asTrace}
 use Rattle.list_pairs.specs.List.{listOf, pairBytes, Listing, listingOf}
 use Rattle.list_pairs.specs.Inner.{HoldsList}
 use Rattle.basics.specs.Text.{startingWith}
-use Rattle.list_call.specs.Types.{Event, Counts, Refusal, ListAnswer, ListBuffer, Outcome, TraceRead}
+use Rattle.list_call.specs.Types.{Event, Counts, Refusal, ListAnswer, Outcome, TraceRead}
 use Rattle.list_call.specs.Races.{listRaces, listAnswer, listOut}
 use Rattle.list_call.specs.Inner.{fitted, Lists}
 
 -- ---- the list in a buffer of its own
-module _ (es : List Event) (b : ListBuffer) (h : HoldsList es b) where
-  listed-bytes : take (b .length) (b .bytes) ≡ pairBytes (listOf es)
+module _ (es : List Event) (c : Counts) (bytes : List ℕ) (h : HoldsList es c bytes) where
+  listed-bytes : take (2 * c .listed) bytes ≡ pairBytes (listOf es)
   unfolding listingOf
   listed-bytes = ap (λ (l : Listing). l .bytes) (h .listing)
 
-  needed-is : b .length ≡ length (pairBytes (listOf es))
-  needed-is = sym (length-take-le (b .length) (b .bytes) (h .within)) ∙ ap length listed-bytes
+  needed-is : 2 * c .listed ≡ length (pairBytes (listOf es))
+  needed-is = sym (length-take-le (2 * c .listed) bytes (h .within)) ∙ ap length listed-bytes
 
   module _ (old : List ℕ) where
-    pub list-short : length old < b .length → Lists (fitted es (length old)) (ListAnswer.Refused (Refusal.ListShort (b .length))) old old
+    pub list-short : length old < 2 * c .listed → Lists (fitted es (length old)) (ListAnswer.Refused (Refusal.ListShort (2 * c .listed))) old old
     unfolding fitted
     list-short l =
         let t = short-refused (length old) (pairBytes (listOf es)) Refusal.ListShort (omega (arith, needed-is)) in
         rw t (record { answer = ap (λ (n : ℕ). ListAnswer.Refused (Refusal.ListShort n)) needed-is; buffer = refl })
 
-    pub list-done : (src out : List ℕ) → b .length ≤ length old → src ≡ take (b .length) (b .bytes) → out ≡ take (length src) src ++ drop (length src) old
-        → Lists (fitted es (length old)) (ListAnswer.Counts (b .counts)) old out
+    pub list-done : (src out : List ℕ) → 2 * c .listed ≤ length old → src ≡ take (2 * c .listed) bytes → out ≡ take (length src) src ++ drop (length src) old
+        → Lists (fitted es (length old)) (ListAnswer.Counts c) old out
     unfolding fitted listingOf
     list-done src out m s o =
         let t = short-passed (length old) (pairBytes (listOf es)) Refusal.ListShort (omega (arith, needed-is)) in

@@ -16,13 +16,12 @@ fn put_list(t: Trace, out: &mut [u8]) -> ListAnswer
     requires { ⌜ t .len ≤ 256 ⌝ }
     ensures { λ r. ⌜ Lists (fitted (eventsOf t) (length (now (out .entry)))) r (now (out .entry)) (now (out .exit)) ⌝ }
 {
-    let list = list_pairs::list_of(t);
-    let counts = list.counts;
-    let needed = list.length;
+    let mut pairs = list_pairs::pair_room();
+    let counts = list_pairs::list_of(t, &mut pairs);
+    let needed = 2 * counts.listed;
     if out.len() < needed {
         return ListAnswer::Refused(Refusal::ListShort(needed));
     }
-    let pairs = list.bytes;
     bytes::copy(&pairs[..needed], out);
     ListAnswer::Counts(counts)
 }

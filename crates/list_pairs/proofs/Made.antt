@@ -4,7 +4,7 @@ use native.Mathlib.Omega.{arith}
 use mathlib.Core.Path.{_≡_, sym, ap, _∙_}
 use mathlib.Core.List.{List}
 use lib.ListN.{length, length-take, take, drop}
-use lib.Seq.{sets, sets-eq, length-sets, take-at}
+use lib.Seq.{sets, sets-eq, length-sets, length-take-le, take-at}
 use Rattle.call_answers.specs.Inner.{Small}
 use Rattle.trace_events.specs.Events.{eventsOf}
 use Rattle.list_verdicts.specs.Kinds.{Kind, listed}
@@ -23,7 +23,7 @@ module _ (es : List Event) (few : length es ≤ 256) (c : Counts) (e : c ≡ cou
   unfolding countsOf
   listed-is = ap (λ (d : Counts). d .listed) e
 
-  pub listed-most : c .listed ≤ 32640
+  listed-most : c .listed ≤ 32640
   listed-most = omega (arith, listed-is, count-most listed es few)
 
   counts-small : Small c
@@ -40,10 +40,14 @@ module _ (es : List Event) (few : length es ≤ 256) (c : Counts) (e : c ≡ cou
   bytes-taken = bytes-length (listOf es) ∙ ap (λ (n : ℕ). 2 * n) (sym listed-is)
 
   pub made : (room bytes : List ℕ) → length room ≡ 131072 → bytes ≡ sets room 0 (pairBytes (listOf es))
-      → HoldsList es (record { counts = c; length = 2 * c .listed; bytes = bytes })
+      → HoldsList es c bytes
   unfolding listingOf
   made room bytes l h =
       let taken : take (2 * c .listed) bytes ≡ pairBytes (listOf es) =
       ap (take (2 * c .listed)) (h ∙ sets-eq (pairBytes (listOf es)) room 0 (omega (arith, bytes-taken, listed-most)))
       ∙ take-at (pairBytes (listOf es)) (drop (0 + length (pairBytes (listOf es))) room) (2 * c .listed) bytes-taken in
-      record { listing = λ m. record { counts = e m; bytes = taken m }; most = omega (arith, listed-most); within = omega (arith, listed-most, ap length h, length-sets room 0 (pairBytes (listOf es))); small = counts-small }
+      record { listing = λ m. record { counts = e m; bytes = taken m }; most = listed-most; within = omega (arith, listed-most, ap length h, length-sets room 0 (pairBytes (listOf es))); small = counts-small }
+
+-- the list fits where its length does
+pub list-fits : (es : List Event) (c : Counts) (bytes : List ℕ) → HoldsList es c bytes → (room : ℕ) → 2 * c .listed ≤ room → length (take (2 * c .listed) bytes) ≤ room
+list-fits es c bytes h room m = omega (arith, length-take-le (2 * c .listed) bytes (h .within))

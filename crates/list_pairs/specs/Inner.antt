@@ -2,11 +2,11 @@
 use mathlib.Core.Bool.{Bool, true, false}
 use mathlib.Core.List.{List}
 use mathlib.Core.Path.{_≡_}
-use Prim.Native.Nat.{ℕ, _≤_}
+use Prim.Native.Nat.{ℕ, _*_, _≤_}
 use lib.ListN.{length, take}
 use Rattle.call_answers.specs.Inner.{Small}
 use Rattle.list_verdicts.specs.Kinds.{Kind, pairs, ordered, commuting, listed}
-use Rattle.list_pairs.specs.Types.{Event, Counts, Verdict, ListBuffer}
+use Rattle.list_pairs.specs.Types.{Event, Counts, Verdict}
 use Rattle.list_pairs.specs.List.{Listing, listingOf}
 
 -- a verdict counts for a kind
@@ -35,13 +35,13 @@ countOf ordered c = c .ordered
 countOf commuting c = c .commuting
 countOf listed c = c .listed
 
--- the counts and the bytes that stand in the buffer
-abbrev pub asListing : ListBuffer → Listing
-asListing b = record { counts = b .counts; bytes = take (b .length) (b .bytes) }
+-- the counts, and the list from the start of a buffer
+abbrev pub asListing : Counts → List ℕ → Listing
+asListing c bytes = record { counts = c; bytes = take (2 * c .listed) bytes }
 
--- the list of these events, no longer than 32,640 pairs are
-pub record HoldsList (es : List Event) (b : ListBuffer) : Type 0 where
-  pub listing : asListing b ≡ listingOf es
-  pub most : b .length ≤ 65280
-  pub within : b .length ≤ length (b .bytes)
-  pub small : Small (b .counts)
+-- the list of these events, of at most 32,640 pairs
+pub record HoldsList (es : List Event) (c : Counts) (bytes : List ℕ) : Type 0 where
+  pub listing : asListing c bytes ≡ listingOf es
+  pub most : c .listed ≤ 32640
+  pub within : 2 * c .listed ≤ length bytes
+  pub small : Small c

@@ -4,5 +4,4 @@ pub use Rattle.flow_table.specs.declared.operation.Operation.{Operation}
 pub use Rattle.trace_events.specs.declared.event.Event.{Event}
 pub use Rattle.trace_events.specs.declared.trace.Trace.{Trace}
 pub use Rattle.call_answers.specs.declared.list.Counts.{Counts}
-pub use Rattle.list_pairs.specs.declared.listing.ListBuffer.{ListBuffer}
 pub use Rattle.list_verdicts.specs.declared.verdict.Verdict.{Verdict}

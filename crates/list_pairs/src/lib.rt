@@ -3,5 +3,5 @@ mod counts; // the four counts, kept pair by pair
 pub mod listing; // the list of a trace's events
 mod pass; // one pass over the pairs
 
-pub use listing::ListBuffer;
 pub use listing::list_of;
+pub use listing::pair_room;

@@ -8,31 +8,18 @@ ghost use lib.ListN.{length};
 ghost use Rattle.trace_events.specs.Events.{eventsOf};
 ghost use Rattle.list_pairs.specs.Inner.{HoldsList};
 
-// The four counts, and the list in the first `length` bytes.
-pub struct ListBuffer {
-    pub counts: Counts,
-    pub length: usize,
-    pub bytes: [u8; 131072],
-}
-
 // Room for two bytes of each pair of 256 events, and more.
-fn pair_room() -> [u8; 131072]
+pub fn pair_room() -> [u8; 131072]
     ensures { λ r. ⌜ length r ≡ 131072 ⌝ }
 {
     [0u8; 131072]
 }
 
-pub fn list_of(t: Trace) -> ListBuffer
-    requires { ⌜ t .len ≤ 256 ⌝ }
-    ensures { λ r. ⌜ HoldsList (eventsOf t) r ⌝ }
+// The four counts, and the list from the start of that room.
+pub fn list_of(t: Trace, list: &mut [u8]) -> Counts
+    requires { ⌜ (t .len ≤ 256) × (length (now list) ≡ 131072) ⌝ }
+    ensures { λ r. ⌜ HoldsList (eventsOf t) r (now (list .exit)) ⌝ }
 {
     let rows = happens_before::happens_before(t);
-    let mut bytes = pair_room();
-    let counts = scan(t, &rows, &mut bytes);
-    let length = 2 * counts.listed;
-    ListBuffer {
-        counts,
-        length,
-        bytes,
-    }
+    scan(t, &rows, list)
 }

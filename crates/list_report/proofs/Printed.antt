@@ -1,5 +1,5 @@
 -- What is printed, put into a buffer: of an accepted trace its list, of a refused one its refusal. Assumes nothing.
-use Prim.Native.Nat.{ℕ, _≤_}
+use Prim.Native.Nat.{ℕ, _*_, _≤_}
 use native.Mathlib.Omega.{arith}
 use mathlib.Core.Path.{_≡_, sym, ap, subst, _∙_}
 use mathlib.Core.List.{List, [], _++_}
@@ -12,15 +12,15 @@ use Rattle.trace_text.specs.TraceText.{readTrace}
 use Rattle.trace_text.specs.Inner.{asTrace}
 use Rattle.list_pairs.specs.List.{listingOf}
 use Rattle.list_pairs.specs.Inner.{HoldsList}
-use Rattle.list_report.specs.Types.{Event, Refusal, Outcome, ListBuffer, TraceRead}
+use Rattle.list_report.specs.Types.{Event, Refusal, Counts, Outcome, TraceRead}
 use Rattle.list_report.specs.Report.{raceLines, countsLine, listText, textOf, reportText}
 use Rattle.list_report.proofs.Sizes.{report-length}
 
 -- the lines of the list that stands in a buffer
-pub list-put : (es : List Event) (b : ListBuffer) → HoldsList es b → {n : ℕ} {old out : List ℕ}
-    → Put (raceLines (take (b .length) (b .bytes)) ++ countsLine (b .counts)) 0 old n out → Put (listText (listingOf es)) 0 old n out
+pub list-put : (es : List Event) (c : Counts) (bytes : List ℕ) → HoldsList es c bytes → {n : ℕ} {old out : List ℕ}
+    → Put (raceLines (take (2 * c .listed) bytes) ++ countsLine c) 0 old n out → Put (listText (listingOf es)) 0 old n out
 unfolding listText
-list-put es b h {n} {old} {out} p = subst (λ (t : List ℕ). Put t 0 old n out) (ap listText (h .listing)) p
+list-put es c bytes h {n} {old} {out} p = subst (λ (t : List ℕ). Put t 0 old n out) (ap listText (h .listing)) p
 
 -- the text of a trace, by the outcome of reading it
 module _ (s : List ℕ) (read : TraceRead) (e : asTrace read ≡ readTrace s) where

@@ -4,5 +4,4 @@ pub use Rattle.refusals.specs.declared.refusal.Source.{Source}
 pub use Rattle.trace_events.specs.declared.event.Event.{Event}
 pub use Rattle.refusals.specs.declared.refusal.Outcome.{Outcome}
 pub use Rattle.call_answers.specs.declared.list.Counts.{Counts}
-pub use Rattle.list_pairs.specs.declared.listing.ListBuffer.{ListBuffer}
 pub use Rattle.trace_text.specs.declared.text.TraceRead.{TraceRead}

@@ -65,10 +65,9 @@ fn put_listing(out: &mut [u8], t: Trace) -> usize
     requires { ⌜ t .len ≤ 256 ⌝ }
     ensures { λ r. ⌜ Put (listText (listingOf (eventsOf t))) 0 (now (out .entry)) r (now (out .exit)) ⌝ }
 {
-    let list = list_pairs::list_of(t);
-    let counts = list.counts;
-    let n = list.length;
-    let pairs = list.bytes;
+    let mut pairs = list_pairs::pair_room();
+    let counts = list_pairs::list_of(t, &mut pairs);
+    let n = 2 * counts.listed;
     let at = put_races(out, &pairs[..n]);
     put_counts(out, at, counts)
 }

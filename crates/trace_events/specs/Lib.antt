@@ -1,3 +1,4 @@
 pub mod Types
 pub mod Events
 pub mod Precedence
+pub mod Inner

@@ -4,5 +4,6 @@ pub use Rattle.flow_table.specs.declared.operation.Operation.{Operation}
 pub use Rattle.trace_events.specs.declared.tokens.Tokens.{Tokens}
 pub use Rattle.flow_table.specs.declared.carried.Carried.{Carried}
 pub use Rattle.trace_events.specs.declared.head.Head.{Head}
+pub use Rattle.trace_events.specs.declared.side.Side.{Side}
 pub use Rattle.trace_events.specs.declared.event.Event.{Event}
 pub use Rattle.trace_events.specs.declared.trace.Trace.{Trace}

@@ -6,7 +6,6 @@ use flow_table::carried_by;
 ghost use mathlib.Core.Path.{_≡_};
 ghost use Rattle.flow_table.specs.Switches.{switchOf};
 ghost use Rattle.trace_events.specs.Events.{isBarrier, barrierOrders, isWrite};
-ghost use Rattle.trace_events.specs.Precedence.{barrierStep};
 
 // The switch of an operation; 0 of `oth`, which has none.
 pub fn switch_of(o: Operation) -> u8
@@ -54,14 +53,4 @@ pub fn barrier_orders(o: Operation) -> bool
         Operation::Message(_) => true,
         Operation::Table(_, t) => is_write(t),
     }
-}
-
-// Both on one switch, both among writes, `bar` and `msg`, and one is `bar`.
-pub fn barrier_step(a: Operation, b: Operation) -> bool
-    ensures { λ r. ⌜ r ≡ barrierStep a b ⌝ }
-{
-    (switch_of(a) == switch_of(b))
-        & barrier_orders(a)
-        & barrier_orders(b)
-        & (is_barrier(a) | is_barrier(b))
 }

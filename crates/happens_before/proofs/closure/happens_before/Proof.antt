@@ -1,4 +1,5 @@
--- The outer invariant: the rows of the events below j are filled. The inner: the set holds what happens before j by a last step from below k.
+-- The outer invariant: the rows of the events below j are filled and their sides noted. The inner: the set holds what happens before j by a
+-- last step from below k.
 use Prim.Native.Nat.{ℕ, _≤_, _-_}
 use native.Mathlib.Omega.{arith}
 use mathlib.Core.Path.{_≡_, refl, sym, ap, _∙_}
@@ -8,8 +9,10 @@ use Rattle.trace_events.specs.Events.{eventsOf}
 use Rattle.basics.specs.Searches.{anyBelow}
 use Rattle.trace_events.proofs.TraceLaws.{length-events}
 use Rattle.basics.proofs.Arrays.{length-mapped}
+use Rattle.basics.proofs.Booleans.{was-false}
 use Rattle.happens_before.specs.Inner.{member}
 use Rattle.happens_before.proofs.RowLaws.{Filled, step-at, joined, filled-at, filled-none, filled-more, filled-all}
+use Rattle.happens_before.proofs.SideNotes.{Noted, noted-more, no-step, passed-by}
 use Rattle.happens_before.proofs.Chains.{row-union}
 use Rattle.happens_before.specs.Causality.{through}
 use Rattle.happens_before.proofs.SetLaws.{member-none}
@@ -17,30 +20,44 @@ use Rattle.happens_before.proofs.closure.happens_before.Statement.{stat
 use Rattle.happens_before.proofs.closure.happens_before.Tie as tie
 
 abbrev Inv-loop2 : tie.InvT-loop2
-Inv-loop2 t n rows j second set₀ k₀ set k = (k ≤ j) × ((i : ℕ) → member set i ≡ anyBelow (through (eventsOf t) i j) k)
+Inv-loop2 t n rows sides j second later set₀ k₀ set k = (k ≤ j) × ((i : ℕ) → member set i ≡ anyBelow (through (eventsOf t) i j) k)
 
 abbrev μ-loop2 : tie.MeasureT-loop2
-μ-loop2 t n rows j second set₀ k₀ set k = j - k
+μ-loop2 t n rows sides j second later set₀ k₀ set k = j - k
 
 abbrev Inv-loop : tie.InvT-loop
-Inv-loop t n rows₀ j₀ rows j = (j ≤ n) × (length (t .events) ≡ 256) × (length rows ≡ 256) × Filled (eventsOf t) j rows
+Inv-loop t n rows₀ sides₀ j₀ rows sides j =
+    (j ≤ n) × (length (t .events) ≡ 256) × (length rows ≡ 256) × Filled (eventsOf t) j rows × (length sides ≡ 256) × Noted t j sides
 
 abbrev μ-loop : tie.MeasureT-loop
-μ-loop t n rows₀ j₀ rows j = n - j
+μ-loop t n rows₀ sides₀ j₀ rows sides j = n - j
 
 loop-holds : tie.Need-loop-holds Inv-loop2 μ-loop2 Inv-loop μ-loop
-loop-holds c = (omega arith, search (needs, length-mapped), refl, filled-none _ 256)
+loop-holds c = (omega arith, search (needs, length-mapped), refl, filled-none _ 256, refl, λ k l. absurd (omega arith))
 
 loop2-holds : tie.Need-loop2-holds Inv-loop2 μ-loop2 Inv-loop μ-loop
 loop2-holds c = (omega arith, λ i. member-none i)
 
 loop2-again : tie.Need-loop2-again Inv-loop2 μ-loop2 Inv-loop μ-loop
 loop2-again c =
-    let l = c .before .before .before .before .before in
-    let o = l .before .before .before in
-    let t = o .before .args .t1 in
+    let asked = c .before in
+    let l = asked .before .before .before in
+    let o = l .before .before .before .before in
+    let t = o .before .before .args .t1 in
+    let fits : t .len ≤ length (t .events) = omega (arith, o .before .before .pre) in
+    let none = no-step t fits (o .loop .sides) (o .loop .j) (l .loop2 .k) (o .loop .inv .5) (omega arith) (omega arith) (l .before .side .ensures) (was-false (asked .maybe-before .ensures) (c .if1 .taken)) in (
+      omega arith,
+      λ i. passed-by (eventsOf t) i _ (l .loop2 .k) (l .loop2 .inv .1 i) none,
+    )
+
+loop2-again-2 : tie.Need-loop2-again-2 Inv-loop2 μ-loop2 Inv-loop μ-loop
+loop2-again-2 c =
+    let asked = c .before .before .before .before .before in
+    let l = asked .before .before .before in
+    let o = l .before .before .before .before in
+    let t = o .before .before .args .t1 in
     let k = l .loop2 .k in
-    let fits : t .len ≤ length (t .events) = omega (arith, o .before .pre) in (
+    let fits : t .len ≤ length (t .events) = omega (arith, o .before .before .pre) in (
       omega arith,
       λ i. joined (eventsOf t) i _ k (c .join-if .ensures i) (l .loop2 .inv .1 i)
           (c .before .precedes .ensures ∙ sym (step-at t fits k _ (omega arith) (omega arith)))
@@ -49,21 +66,25 @@ loop2-again c =
 
 loop-again : tie.Need-loop-again Inv-loop2 μ-loop2 Inv-loop μ-loop
 loop-again c =
-    let o = c .before .before .before .before in
     let i2 = c .before .loop2 in
+    let s = c .before .before in
+    let o = s .before .before .before in
     let e : i2 .k ≡ o .loop .j = omega arith in (
       omega arith,
       o .loop .inv .1,
       simp length-set (o .loop .inv .2),
       filled-more _ (o .loop .rows) (o .loop .j) (i2 .set) (omega arith) (o .loop .inv .3)
           (λ i. i2 .inv .1 i ∙ ap (anyBelow (through _ i _)) e ∙ sym (row-union _ i _)),
+      simp length-set (o .loop .inv .4),
+      noted-more (o .before .before .args .t1) (o .loop .j) (o .loop .sides) (omega arith) (s .side .ensures) (o .loop .inv .5),
     )
 
 returns : tie.Need-returns Inv-loop2 μ-loop2 Inv-loop μ-loop
 returns c =
     let l = c .before .loop in
-    let t = c .before .before .args .t1 in
-    let fits : t .len ≤ length (t .events) = omega (arith, c .before .before .pre) in
+    let start = c .before .before .before in
+    let t = start .args .t1 in
+    let fits : t .len ≤ length (t .events) = omega (arith, start .pre) in
     filled-all (eventsOf t) (l .rows) (l .j) (omega (arith, length-events t fits)) (l .inv .3)
 
 pub happens-before-spec : {M : Type 1} → statement M
@@ -73,9 +94,10 @@ happens-before-spec =
     Inv-loop2
     μ-loop2
     Inv-loop
-    μ-loop
-    loop-holds (λ c. omega arith) (λ c. omega arith)
-    loop2-holds (λ c. omega arith) (λ c. omega arith) (λ c. omega arith) (λ c. omega arith) (λ c κs. search needs) (λ c. omega arith) (λ c κs. search needs) (λ c. omega arith) (λ c. omega arith)
-    loop2-again (λ c. omega arith) (λ c. omega arith) (λ c. omega arith) (λ c. omega arith)
+    μ-loop (λ c κs. search needs)
+    loop-holds (λ c. omega arith) (λ c. omega arith) (λ c κs. search needs)
+    loop2-holds (λ c. omega arith) (λ c. omega arith) (λ c κs. search needs) (λ c. omega arith) (λ c. omega arith)
+    loop2-again (λ c. omega arith) (λ c. omega arith) (λ c. omega arith) (λ c. omega arith) (λ c κs. search needs) (λ c. omega arith) (λ c κs. search needs) (λ c. omega arith) (λ c. omega arith)
+    loop2-again-2 (λ c. omega arith) (λ c. omega arith) (λ c. omega arith) (λ c. omega arith) (λ c. omega arith) (λ c. omega arith)
     loop-again
     returns)

@@ -1,0 +1,38 @@
+-- The sides of the events so far, as the pass over the events notes them. Assumes nothing.
+use Prim.Native.Nat.{ℕ, _+_, _<_, _≤_}
+use native.Mathlib.Decide.{ℕ-discrete}
+use native.Mathlib.Numerals.{add-one}
+use native.Mathlib.Omega.{arith}
+use mathlib.Core.Path.{_≡_, sym, ap₂, _∙_}
+use mathlib.Core.Bool.{Bool, false, or-false}
+use mathlib.Core.List.{List}
+use lib.ListN.{length, getD, set}
+use lib.Seq.{getD-set-same, getD-set-other}
+use Rattle.trace_events.specs.Events.{eventsOf, noEvent}
+use Rattle.trace_events.specs.Inner.{noSide, sideOf, maybeBefore}
+use Rattle.trace_events.proofs.SideLaws.{never-before}
+use Rattle.basics.specs.Searches.{anyBelow}
+use Rattle.happens_before.specs.Types.{Side, Event, Trace}
+use Rattle.happens_before.specs.Causality.{step, through}
+use Rattle.happens_before.proofs.RowLaws.{step-at}
+
+-- the side of the event at a place of the array
+abbrev pub sideAt : Trace → ℕ → Side
+sideAt t k = sideOf (getD (t .events) k noEvent .head) (getD (t .events) k noEvent .operation)
+
+-- the sides of the first n events are noted
+abbrev pub Noted : Trace → ℕ → List Side → Type 0
+Noted t n sides = (k : ℕ) → k < n → getD sides k noSide ≡ sideAt t k
+
+pub noted-more : (t : Trace) (n : ℕ) (sides : List Side) {s : Side} → n < length sides → s ≡ sideAt t n → Noted t n sides → Noted t (n + 1) (set sides n s)
+noted-more t n sides {s} l e f k m =
+    elim (ℕ-discrete k n) [ yes u ↦ rw (u, getD-set-same sides n s noSide l) e | no ne ↦ rw (getD-set-other sides n k s noSide ne) (f k (omega arith)) ]
+
+-- where the sides tell, there is no step
+pub no-step : (t : Trace) → t .len ≤ length (t .events) → (sides : List Side) (j k : ℕ) → Noted t j sides → k < j → j < t .len → {s : Side}
+    → s ≡ sideAt t j → maybeBefore (getD sides k noSide) s ≡ false → step (eventsOf t) k j ≡ false
+no-step t h sides j k f l m e g = step-at t h k j l m ∙ never-before _ _ (ap₂ maybeBefore (sym (f k l)) (sym e) ∙ g)
+
+-- a turn of filling the row of j without event k, which does not directly precede it
+pub passed-by : (es : List Event) (i j k : ℕ) {y : Bool} → y ≡ anyBelow (through es i j) k → step es k j ≡ false → y ≡ anyBelow (through es i j) (k + 1)
+passed-by es i j k e f = rw (add-one, f, or-false) e

@@ -16,6 +16,9 @@
 //! | [`refusal`] | Refusal table |
 //! | [`output`] | Program and worked lines |
 //!
+//! Matches and entries are compared and ordered as integers (`packed`); texts are read by `text` and written by
+//! `write`.
+//!
 //! The three calls write into buffers that the caller lends, as the proved ones do:
 //! [`list`], [`normalise`] and [`replay()`].
 
@@ -30,7 +33,9 @@ pub mod table;
 pub mod tables;
 pub mod trace;
 
+mod packed;
 mod text;
+mod write;
 
 pub use causality::{happens_before, EventSet};
 pub use commute::commutes;

@@ -11,7 +11,9 @@ use reference::causality::directly_precedes;
 use reference::races::racing_pairs;
 use reference::replay::recorded_order;
 use reference::trace::Event;
-use reference::{happens_before, list, normalise, read_tables, read_trace, replay, Counts, Refusal};
+use reference::{
+    happens_before, list, normal_text, normalise, read_tables, read_trace, replay, Counts, Refusal,
+};
 use std::collections::BTreeMap;
 
 #[test]
@@ -45,6 +47,7 @@ fn normal_forms() {
         let normal = normal_of(&text);
         assert_eq!(normal, normal_of(&typed_anew));
         assert_eq!(normal, normal_of(&normal));
+        assert_eq!(normal, normal_text(&read_tables(&text).expect("a valid text")));
         assert_eq!(normal.len(), text.len());
     }
 }

@@ -86,8 +86,7 @@ impl Flat {
             (Modify, Delete) => !m.overlaps(n),
             (Modify, StrictDelete) => !n.within(m),
             (Modify, Modify) => {
-                let neither_within = !m.within(n) && !n.within(m);
-                !m.overlaps(n) || (one.action == two.action && neither_within) || one == two
+                !m.overlaps(n) || (one.action == two.action && !m.within(n) && !n.within(m)) || one == two
             }
             _ => return None,
         };

@@ -3,7 +3,7 @@
 use crate::races::races;
 use crate::refusal::Refusal;
 use crate::replay::{outcome, put_answers};
-use crate::tables::{normal_text, read_tables};
+use crate::tables::{normal_text, normalise};
 use crate::write;
 use crate::Counts;
 
@@ -64,8 +64,12 @@ impl<const N: usize> Piece<N> {
 
 /// `normalise` of a table text: the normal text, or the refusal.
 pub fn normalised(tables: &[u8]) -> Vec<u8> {
-    match read_tables(tables) {
-        Ok(tables) => normal_text(&tables),
+    let mut text = vec![0; tables.len()];
+    match normalise(tables, &mut text) {
+        Ok(length) => {
+            text.truncate(length);
+            text
+        }
         Err(refusal) => refused(&refusal),
     }
 }

@@ -73,16 +73,20 @@ fn by_switch<'a>(events: &[Event], before: &'a [EventSet]) -> [Vec<TableEvent<'a
 
 /// Counts the pairs of an event with later ones of its switch, and lists those that race.
 fn pairs_with(first: &TableEvent, later: &[TableEvent], counts: &mut Counts, listed: &mut Vec<[u8; 2]>) {
-    let (mut ordered, mut commuting) = (0, 0);
+    let (mut ordered, mut commuting, mut racing) = (0, 0, listed.len());
+    // Room for all, cut afterwards: cheaper than a push for each.
+    listed.resize(racing + later.len(), [0; 2]);
     for second in later {
         if second.before.contains(usize::from(first.number)) {
             ordered += 1;
         } else if first.operation.commutes(&second.operation) {
             commuting += 1;
         } else {
-            listed.push([first.number, second.number]);
+            listed[racing] = [first.number, second.number];
+            racing += 1;
         }
     }
+    listed.truncate(racing);
     counts.pairs += later.len();
     counts.ordered += ordered;
     counts.commuting += commuting;

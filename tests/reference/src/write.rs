@@ -4,11 +4,29 @@ use crate::flow::{Action, Exact, Match, Prefix};
 use crate::packed::Row;
 
 /// A decimal number.
-pub fn number(text: &mut Vec<u8>, number: u16) {
-    let digits = [10_000, 1_000, 100, 10, 1].map(|unit| b'0' + (number / unit % 10) as u8);
-    let zeros = digits[..4].iter().take_while(|&&digit| digit == b'0').count();
-    text.extend_from_slice(&digits[zeros..]);
+pub fn number(text: &mut Vec<u8>, n: u16) {
+    let [d, e] = TWO_DIGITS[usize::from(n % 100)];
+    let [b, c] = TWO_DIGITS[usize::from(n / 100 % 100)];
+    let a = b'0' + (n / 10_000) as u8;
+    match n {
+        0..10 => text.push(e),
+        10..100 => text.extend_from_slice(&[d, e]),
+        100..1_000 => text.extend_from_slice(&[c, d, e]),
+        1_000..10_000 => text.extend_from_slice(&[b, c, d, e]),
+        10_000.. => text.extend_from_slice(&[a, b, c, d, e]),
+    }
 }
+
+/// The digits of the numbers up to 99.
+const TWO_DIGITS: [[u8; 2]; 100] = {
+    let mut digits = [[0; 2]; 100];
+    let mut n = 0;
+    while n < 100 {
+        digits[n] = [b'0' + n as u8 / 10, b'0' + n as u8 % 10];
+        n += 1;
+    }
+    digits
+};
 
 /// `*` or a number.
 fn any_or_number(text: &mut Vec<u8>, field: Exact<u16>) {

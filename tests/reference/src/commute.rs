@@ -6,7 +6,7 @@ use crate::table::TableOperation;
 use Kind::{Add, CheckedAdd, Delete, Modify, Packet, StrictDelete};
 
 /// Whether on every finite table both orders leave the same table and give each event the same
-/// answer.
+/// answer: document 01's table of pairs, row by row.
 pub fn commutes(left: &TableOperation, right: &TableOperation) -> bool {
     Flat::of(left).commutes(&Flat::of(right))
 }
@@ -14,7 +14,7 @@ pub fn commutes(left: &TableOperation, right: &TableOperation) -> bool {
 /// A table event as it is compared with others: the same fields for all kinds. A packet is the match that
 /// only it fits.
 #[derive(Clone, Copy)]
-pub struct Flat {
+pub(crate) struct Flat {
     kind: Kind,
     row: Row,
 }
@@ -32,31 +32,26 @@ enum Kind {
 
 impl Flat {
     /// The event of an operation. Fields that it lacks are the same for all of its kind.
-    pub fn of(operation: &TableOperation) -> Flat {
-        let matching = |kind, matching| {
-            let row = Row::new(&Key::new(0, matching), Action::Drop);
-            Flat { kind, row }
+    pub(crate) fn of(operation: &TableOperation) -> Flat {
+        let only = |matching| Row::new(&Key::new(0, matching), Action::Drop);
+        let (kind, row) = match operation {
+            TableOperation::Packet(packet) => (Packet, only(packet.as_match())),
+            TableOperation::Add(entry) | TableOperation::StrictModify(entry) => (Add, Row::of(entry)),
+            TableOperation::CheckedAdd(entry) => (CheckedAdd, Row::of(entry)),
+            TableOperation::Modify(entry) => (Modify, Row::of(entry)),
+            TableOperation::StrictDelete(key) => (StrictDelete, Row::new(key, Action::Drop)),
+            TableOperation::Delete(matching) => (Delete, only(*matching)),
         };
-        match operation {
-            TableOperation::Packet(packet) => matching(Packet, packet.as_match()),
-            TableOperation::Add(entry) | TableOperation::StrictModify(entry) => {
-                Flat { kind: Add, row: Row::of(entry) }
-            }
-            TableOperation::CheckedAdd(entry) => Flat { kind: CheckedAdd, row: Row::of(entry) },
-            TableOperation::Modify(entry) => Flat { kind: Modify, row: Row::of(entry) },
-            TableOperation::StrictDelete(key) => {
-                Flat { kind: StrictDelete, row: Row::new(key, Action::Drop) }
-            }
-            TableOperation::Delete(m) => matching(Delete, *m),
-        }
+        Flat { kind, row }
     }
 
-    /// Whether two events commute: document 01's table of pairs, row by row. Each row says yes where the matches
-    /// don't overlap, which is asked first.
-    pub fn commutes(&self, other: &Flat) -> bool {
+    /// Whether two events commute. Each row of the table says yes where the matches don't overlap, which is asked
+    /// first.
+    pub(crate) fn commutes(&self, other: &Flat) -> bool {
         !self.row.bits.overlaps(&other.row.bits) || self.by_table(other)
     }
 
+    /// What the table of pairs says.
     fn by_table(&self, other: &Flat) -> bool {
         self.by_row(other)
             .or_else(|| other.by_row(self))

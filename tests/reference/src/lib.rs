@@ -16,8 +16,10 @@
 //! | [`refusal`] | Refusal table |
 //! | [`output`] | Program and worked lines |
 //!
-//! Matches and entries are compared and ordered as integers (`packed`); texts are read by `text` and written by
-//! `write`.
+//! It is also the peer of docs/MEASUREMENTS.md, so it is made fast where that costs little: matches and entries are
+//! compared and ordered as integers (`packed`), texts are read in one pass (`text`) and written without formatting
+//! (`write`), what precedes an event is looked up. What the fast forms mean stays beside them, and tests hold one
+//! against the other.
 //!
 //! The three calls write into buffers that the caller lends, as the proved ones do:
 //! [`list`], [`normalise`] and [`replay()`].

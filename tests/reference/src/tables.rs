@@ -1,6 +1,6 @@
 //! Table texts: the tables of all switches, and their normal form.
 
-use crate::flow::{Entry, Match};
+use crate::flow::{Entry, Match, Prefix};
 use crate::packed::Row;
 use crate::refusal::{check_room, Refusal};
 use crate::table::Table;
@@ -120,6 +120,12 @@ pub struct MatchItems(pub Match);
 impl Display for MatchItems {
     fn fmt(&self, f: &mut fmt::Formatter) -> fmt::Result {
         written(f, |text| write::matching(text, &self.0))
+    }
+}
+
+impl Display for Prefix {
+    fn fmt(&self, f: &mut fmt::Formatter) -> fmt::Result {
+        written(f, |text| write::prefix(text, *self))
     }
 }
 

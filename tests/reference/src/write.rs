@@ -37,7 +37,7 @@ fn any_or_number(text: &mut Vec<u8>, field: Exact<u16>) {
 }
 
 /// Eight hexadecimal digits, `/` and a length.
-fn prefix(text: &mut Vec<u8>, prefix: Prefix) {
+pub fn prefix(text: &mut Vec<u8>, prefix: Prefix) {
     let digit = |place: usize| b"0123456789abcdef"[(prefix.value >> (28 - 4 * place) & 15) as usize];
     text.extend_from_slice(&std::array::from_fn::<u8, 8, _>(digit));
     text.push(b'/');

@@ -8,46 +8,56 @@ use std::hint::black_box;
 /// How often each call is timed.
 const TURNS: usize = 301;
 
+/// A call that can be made again and again.
+pub type Call<'a> = Box<dyn FnMut() + 'a>;
+
 /// Prints the line of a row.
 pub fn compare(row: &Row) {
-    match &row.input {
-        Input::List(trace) => list(&format!("list, {}", row.name), trace),
-        Input::Normalise(tables) => normalise(&format!("normalise, {}", row.name), tables),
-        Input::Replay(trace, tables) => replay(&format!("replay, {}", row.name), trace, tables),
+    let call = match row.input {
+        Input::List(_) => "list",
+        Input::Normalise(_) => "normalise",
+        Input::Replay(..) => "replay",
+    };
+    let [proved, peer] = sides(&row.input);
+    turns::compare(&format!("{call}, {}", row.name), TURNS, proved, peer);
+}
+
+/// The call of the proved library and that of the peer.
+pub fn sides(input: &Input) -> [Call<'_>; 2] {
+    match input {
+        Input::List(trace) => list(trace),
+        Input::Normalise(tables) => normalise(tables),
+        Input::Replay(trace, tables) => replay(trace, tables),
     }
 }
 
-fn list(name: &str, trace: &[u8]) {
+fn list(trace: &[u8]) -> [Call<'_>; 2] {
     let [mut ours, mut theirs] = [(); 2].map(|()| vec![0; 65_280]);
-    turns::compare(
-        name,
-        TURNS,
-        || used(gellunka::list_races(black_box(trace), &mut ours)),
-        || used(reference::list(black_box(trace), &mut theirs)),
-    );
+    [
+        Box::new(move || used(gellunka::list_races(black_box(trace), &mut ours))),
+        Box::new(move || used(reference::list(black_box(trace), &mut theirs))),
+    ]
 }
 
-fn normalise(name: &str, tables: &[u8]) {
+fn normalise(tables: &[u8]) -> [Call<'_>; 2] {
     let [mut ours, mut theirs] = [(); 2].map(|()| vec![0; 65_535]);
-    turns::compare(
-        name,
-        TURNS,
-        || used(gellunka::normalise(black_box(tables), &mut ours)),
-        || used(reference::normalise(black_box(tables), &mut theirs)),
-    );
+    [
+        Box::new(move || used(gellunka::normalise(black_box(tables), &mut ours))),
+        Box::new(move || used(reference::normalise(black_box(tables), &mut theirs))),
+    ]
 }
 
-fn replay(name: &str, trace: &[u8], tables: &[u8]) {
+fn replay<'a>(trace: &'a [u8], tables: &'a [u8]) -> [Call<'a>; 2] {
     let events = trace.iter().filter(|&&byte| byte == b'\n').count();
-    let order = reference::replay::recorded_order(events);
+    let [order, same] = [(); 2].map(|()| reference::replay::recorded_order(events));
     let [mut end, mut their_end] = [(); 2].map(|()| vec![0; 53_760]);
     let [mut answers, mut their_answers] = [(); 2].map(|()| vec![0; 7_424]);
-    turns::compare(
-        name,
-        TURNS,
-        || used(gellunka::replay(black_box(trace), tables, &order, &mut end, &mut answers)),
-        || used(reference::replay(black_box(trace), tables, &order, &mut their_end, &mut their_answers)),
-    );
+    [
+        Box::new(move || used(gellunka::replay(black_box(trace), tables, &order, &mut end, &mut answers))),
+        Box::new(move || {
+            used(reference::replay(black_box(trace), tables, &same, &mut their_end, &mut their_answers));
+        }),
+    ]
 }
 
 /// Takes what a call gave, so that the call is made.

@@ -225,6 +225,10 @@ mod tests {
         for bad in ["", "00", "01", "65536", "99999999999", "-1", "+1", "1 ", "1a", "0x1"] {
             assert_eq!(number(bad.as_bytes(), 65535), None, "{bad}");
         }
+        // Past the width of an integer.
+        for bad in ["100000", "4294967296", "4294967297", "18446744073709551616"] {
+            assert_eq!(number(bad.as_bytes(), 65535), None, "{bad}");
+        }
         assert_eq!(number(b"33", 32), None);
     }
 

@@ -32,12 +32,15 @@ pub fn long_entry(n: u16) -> Entry {
     Entry { key: Key::new(65_535, matching), action: Action::Port(65_535) }
 }
 
-/// 256 of the longest lines, in reversed table order.
+/// The switch of the longest lines.
+pub const LONG_SWITCH: u8 = 14;
+
+/// The first 256 of the longest lines, in reversed table order.
 pub fn reversed() -> Vec<u8> {
-    tables_text(&(0..256).rev().map(|n| (14, long_entry(n))).collect::<Vec<_>>())
+    tables_text(&(0..256).rev().map(|n| (LONG_SWITCH, long_entry(n))).collect::<Vec<_>>())
 }
 
-/// 256 of the longest lines, in table order.
+/// The first 256 of the longest lines, in table order.
 pub fn sorted() -> Vec<u8> {
-    tables_text(&(0..256).map(|n| (14, long_entry(n))).collect::<Vec<_>>())
+    tables_text(&(0..256).map(|n| (LONG_SWITCH, long_entry(n))).collect::<Vec<_>>())
 }

@@ -1,8 +1,9 @@
 //! Valid traces, random ones and worst cases.
 
 use crate::print::trace_text;
+use crate::tables::{long_entry, LONG_SWITCH};
 use crate::{Random, World};
-use reference::flow::{Action, Entry, Key, Match};
+use reference::flow::{Action, Entry, Key, Match, Packet};
 use reference::table::TableOperation;
 use reference::trace::{Event, Operation};
 
@@ -78,9 +79,10 @@ pub fn all_racing() -> Vec<u8> {
     trace_text(&apart((0..256).map(add)))
 }
 
-/// 256 non-strict modifies of one match with different actions: every pair races.
+/// 256 non-strict modifies with different actions, of the match that all lie within: every pair races, and onto
+/// [`crate::tables::reversed`] each changes all entries.
 pub fn all_racing_modifies() -> Vec<u8> {
-    let modify = |n| Operation::Table(1, TableOperation::Modify(entry(Match::ANY, n)));
+    let modify = |n| Operation::Table(LONG_SWITCH, TableOperation::Modify(entry(Match::ANY, n)));
     trace_text(&apart((0..256).map(modify)))
 }
 
@@ -108,8 +110,26 @@ pub fn only_barriers() -> Vec<u8> {
     trace_text(&apart((0..256).map(|_| Operation::Barrier(1))))
 }
 
-/// 256 adds of different keys on switch 1, each line as long as can be.
+/// An operation for each of the 256 longest entries after those of [`crate::tables::reversed`], on their switch.
+fn long_writes(operation: fn(Entry) -> TableOperation) -> Vec<u8> {
+    let write = |n| Operation::Table(LONG_SWITCH, operation(long_entry(n)));
+    trace_text(&apart((256..512).map(write)))
+}
+
+/// 256 adds of different keys, each line as long as can be. No two matches overlap.
 pub fn long_adds() -> Vec<u8> {
-    let add = |n| Operation::Table(15, TableOperation::Add(crate::tables::long_entry(n)));
-    trace_text(&apart((0..256).map(add)))
+    long_writes(TableOperation::Add)
+}
+
+/// The same as checked adds: all commute, and onto [`crate::tables::reversed`] all are answered yes.
+pub fn long_checked_adds() -> Vec<u8> {
+    long_writes(TableOperation::CheckedAdd)
+}
+
+/// 256 packets, each of which fits the last entry of [`crate::tables::reversed`] in table order and no other.
+pub fn packets_to_the_last() -> Vec<u8> {
+    let packet =
+        Packet { port: 60_255, src: 0xffff_fff1, dst: 0xffff_fff1, proto: 255, sport: 65_535, dport: 65_535 };
+    let look_up = |_| Operation::Table(LONG_SWITCH, TableOperation::Packet(packet));
+    trace_text(&apart((0..256).map(look_up)))
 }

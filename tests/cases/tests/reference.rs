@@ -4,14 +4,16 @@
 use cases::damage::damaged;
 use cases::orders::{all_orders, any_allowed, any_damaged, is_allowed};
 use cases::print::{tables_text, trace_text};
-use cases::tables::any_tables;
+use cases::tables::{self, any_tables};
 use cases::traces::{self, any_length, any_trace};
 use cases::{Random, World};
 use reference::causality::directly_precedes;
 use reference::races::racing_pairs;
 use reference::replay::recorded_order;
 use reference::trace::Event;
-use reference::{happens_before, list, normalise, read_tables, read_trace, replay, Counts, Refusal};
+use reference::{
+    happens_before, list, normal_text, normalise, read_tables, read_trace, replay, Counts, Refusal,
+};
 use std::collections::BTreeMap;
 
 #[test]
@@ -45,6 +47,7 @@ fn normal_forms() {
         let normal = normal_of(&text);
         assert_eq!(normal, normal_of(&typed_anew));
         assert_eq!(normal, normal_of(&normal));
+        assert_eq!(normal, normal_text(&read_tables(&text).expect("a valid text")));
         assert_eq!(normal.len(), text.len());
     }
 }
@@ -193,8 +196,23 @@ fn worst_cases() {
     let half = 128 * 127 / 2;
     assert_eq!(counts(&traces::barriers()), Counts { pairs: half, ordered: half, commuting: 0, listed: 0 });
     assert_eq!(counts(&traces::only_barriers()), Counts::default());
-    let (end, answers) =
-        replayed(&traces::long_adds(), &cases::tables::reversed(), &recorded_order(256)).unwrap();
-    assert_eq!((end.len(), answers.len()), (53_760, 0));
-    assert_eq!(normal_of(&cases::tables::reversed()), cases::tables::sorted());
+    let commuting = Counts { commuting: all, listed: 0, ..racing };
+    for trace in [traces::long_adds(), traces::long_checked_adds(), traces::packets_to_the_last()] {
+        assert_eq!(counts(&trace), commuting);
+    }
+    assert_eq!(normal_of(&tables::reversed()), tables::sorted());
+}
+
+#[test]
+fn worst_cases_replayed() {
+    let replay = |trace: &[u8]| replayed(trace, &tables::reversed(), &recorded_order(256)).unwrap();
+    let answers = |answer: &str| -> Vec<u8> {
+        (0..256).map(|event| format!("ev={event} {answer}\n")).collect::<String>().into_bytes()
+    };
+    let (end, none) = replay(&traces::long_adds());
+    assert_eq!((end.len(), none.len()), (53_760, 0));
+    assert_eq!(replay(&traces::long_checked_adds()), (end, answers("done=yes")));
+    let last = String::from_utf8(tables::sorted()).unwrap().replace("act=p65535", "act=p255");
+    assert_eq!(replay(&traces::all_racing_modifies()), (last.into_bytes(), Vec::new()));
+    assert_eq!(replay(&traces::packets_to_the_last()), (tables::sorted(), answers("hit=65535,1,p65535")));
 }

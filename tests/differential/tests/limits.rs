@@ -102,6 +102,8 @@ fn worst_cases() {
         traces::barriers(),
         traces::only_barriers(),
         traces::long_adds(),
+        traces::long_checked_adds(),
+        traces::packets_to_the_last(),
     ];
     for trace in &traces {
         let (counts, _) = list(trace, 65_280).expect("a valid trace");

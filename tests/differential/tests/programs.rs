@@ -90,7 +90,14 @@ fn replays() {
         let input = [trace, b"\n--\n", tables, b"\n--\n", order.unwrap_or_default()].concat();
         check("replay_trace", &input, &printed, &replayed(trace, tables, order));
     };
-    replay(&traces::long_adds(), &tables::reversed(), None);
+    for trace in [
+        traces::long_adds(),
+        traces::long_checked_adds(),
+        traces::all_racing_modifies(),
+        traces::packets_to_the_last(),
+    ] {
+        replay(&trace, &tables::reversed(), None);
+    }
     replay(b"", b"", None);
     replay(b"", b"", Some(b""));
     let mut random = Random::from_seed(203);

@@ -1,6 +1,7 @@
 //! Happens-before.
 
-use crate::trace::{Event, Operation};
+use crate::tables::SWITCHES;
+use crate::trace::{Event, Operation, PutOn};
 
 /// A set of events of one trace.
 #[derive(Clone, Copy, Debug, Default, PartialEq, Eq)]
@@ -23,26 +24,57 @@ impl EventSet {
             *word |= more;
         }
     }
+
+    /// Whether all events of the set are in another set.
+    pub fn within(&self, other: &EventSet) -> bool {
+        self.0.iter().zip(other.0).all(|(word, all)| word & !all == 0)
+    }
 }
 
-/// For each event of a trace the set of those that happen before it: every chain of one or more
-/// direct steps.
+/// For each event of an accepted trace the set of those that happen before it: every chain of one or
+/// more direct steps.
 pub fn happens_before(events: &[Event]) -> Vec<EventSet> {
+    let put_on = PutOn::of(events).expect("no token is put out twice");
+    let mut switches = [Handled::default(); SWITCHES];
     let mut before: Vec<EventSet> = Vec::with_capacity(events.len());
-    for (later, event) in events.iter().enumerate() {
+    for (index, event) in events.iter().enumerate() {
         let mut set = EventSet::default();
-        for earlier in 0..later {
-            if directly_precedes(&events[earlier], event) {
-                set.insert(earlier);
-                set.extend(&before[earlier]);
-            }
+        for line in event.taken.iter().filter_map(|&token| put_on.line(token)) {
+            set.insert(line);
+            set.extend(&before[line]);
+        }
+        if let Some(switch) = ordered_by_barriers(event) {
+            switches[usize::from(switch)].handle(index, is_barrier(event), &mut set);
         }
         before.push(set);
     }
     before
 }
 
-/// Whether an event directly precedes one of a later line.
+/// The events of a switch so far that barriers order, each with all that happen before it.
+#[derive(Clone, Copy, Default)]
+struct Handled {
+    /// All of them: these come before a barrier.
+    all: EventSet,
+    /// The barriers: these come before all others.
+    barriers: EventSet,
+}
+
+impl Handled {
+    /// Puts into an event's set what barriers put before it, and counts the event in.
+    fn handle(&mut self, event: usize, is_barrier: bool, set: &mut EventSet) {
+        set.extend(if is_barrier { &self.all } else { &self.barriers });
+        let mut with_event = *set;
+        with_event.insert(event);
+        self.all.extend(&with_event);
+        if is_barrier {
+            self.barriers.extend(&with_event);
+        }
+    }
+}
+
+/// Whether an event directly precedes one of a later line. [`happens_before`] looks these up instead of
+/// asking for each pair.
 pub fn directly_precedes(earlier: &Event, later: &Event) -> bool {
     let passes_token = earlier.put.iter().any(|token| later.taken.contains(token));
     passes_token || barrier_between(earlier, later)
@@ -50,11 +82,14 @@ pub fn directly_precedes(earlier: &Event, later: &Event) -> bool {
 
 /// Whether both are on one switch, both are among writes, `bar` and `msg`, and one is `bar`.
 fn barrier_between(a: &Event, b: &Event) -> bool {
-    let is_barrier = |event: &Event| matches!(event.operation, Operation::Barrier(_));
     match (ordered_by_barriers(a), ordered_by_barriers(b)) {
         (Some(s), Some(t)) => s == t && (is_barrier(a) || is_barrier(b)),
         _ => false,
     }
+}
+
+fn is_barrier(event: &Event) -> bool {
+    matches!(event.operation, Operation::Barrier(_))
 }
 
 /// The switch of a write, a barrier or another message.

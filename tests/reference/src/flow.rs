@@ -102,26 +102,24 @@ impl Prefix {
     /// The prefix of length 0, which admits all addresses.
     pub const ANY: Prefix = Prefix { value: 0, len: 0 };
 
-    /// The first `len` bits of an address, the others zero.
-    fn leading(len: u8, address: u32) -> u32 {
-        let past = 32 - u32::from(len);
-        u32::MAX.checked_shl(past).map_or(0, |mask| address & mask)
+    /// The bits that count.
+    pub fn mask(self) -> u32 {
+        u32::MAX.checked_shl(32 - u32::from(self.len)).unwrap_or(0)
     }
 
     /// Whether no bit past the length is set.
     pub fn is_clear(self) -> bool {
-        Self::leading(self.len, self.value) == self.value
+        self.value & !self.mask() == 0
     }
 
     /// Whether the prefix admits an address.
     pub fn admits(self, address: u32) -> bool {
-        Self::leading(self.len, address) == self.value
+        address & self.mask() == self.value
     }
 
     /// Whether some address is admitted by both: they agree in the bits that both look at.
     pub fn shares(self, other: Prefix) -> bool {
-        let both = self.len.min(other.len);
-        Self::leading(both, self.value) == Self::leading(both, other.value)
+        (self.value ^ other.value) & self.mask() & other.mask() == 0
     }
 
     /// Whether `other` admits every address that this one admits.

@@ -16,6 +16,11 @@
 //! | [`refusal`] | Refusal table |
 //! | [`output`] | Program and worked lines |
 //!
+//! It is also the peer of docs/MEASUREMENTS.md, so it is made fast where that costs little: matches and entries are
+//! compared and ordered as integers (`packed`), texts are read in one pass (`text`) and written without formatting
+//! (`write`), what precedes an event is looked up. What the fast forms mean stays beside them, and tests hold one
+//! against the other.
+//!
 //! The three calls write into buffers that the caller lends, as the proved ones do:
 //! [`list`], [`normalise`] and [`replay()`].
 
@@ -30,7 +35,9 @@ pub mod table;
 pub mod tables;
 pub mod trace;
 
+mod packed;
 mod text;
+mod write;
 
 pub use causality::{happens_before, EventSet};
 pub use commute::commutes;

@@ -39,8 +39,9 @@ fn replay_files(trace: &str, tables: &str, order: Option<&str>) -> Result<Vec<u8
 }
 
 fn standard_input() -> Result<Vec<u8>, String> {
-    let mut bytes = Vec::new();
-    match io::stdin().read_to_end(&mut bytes) {
+    // Room for the longest text that is not refused as a whole.
+    let mut bytes = Vec::with_capacity(65_536);
+    match io::stdin().lock().read_to_end(&mut bytes) {
         Ok(_) => Ok(bytes),
         Err(error) => Err(format!("standard input: {error}")),
     }

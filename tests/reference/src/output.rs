@@ -1,38 +1,75 @@
 //! What the project's programs print, as document 01 says under "Program and worked lines".
 
+use crate::races::races;
 use crate::refusal::Refusal;
-use crate::replay::recorded_order;
-use crate::{list, normalise, read_trace, replay, Counts};
-use std::fmt::Write;
-
-/// Room for every list: 255 * 256 / 2 pairs of two bytes.
-const LIST_ROOM: usize = 65_280;
-/// Room for all end tables and all answers.
-const TEXT_ROOM: usize = 65_536;
+use crate::replay::{outcome, put_answers};
+use crate::tables::{normal_text, normalise};
+use crate::write;
+use crate::Counts;
 
 /// `racelist` of a trace: a `race` line for each listed pair, then the counts line; or the refusal.
 pub fn racelist(trace: &[u8]) -> Vec<u8> {
-    let mut room = vec![0; LIST_ROOM];
-    match list(trace, &mut room) {
-        Ok(counts) => {
-            let mut text = String::new();
-            for pair in room.chunks_exact(2).take(counts.listed) {
-                writeln!(text, "race={},{}", pair[0], pair[1]).expect("a string takes all");
-            }
-            let Counts { pairs, ordered, commuting, listed } = counts;
-            writeln!(text, "pairs={pairs} ordered={ordered} commuting={commuting} listed={listed}")
-                .expect("a string takes all");
-            text.into_bytes()
+    match races(trace) {
+        Ok((counts, pairs)) => {
+            let Counts { pairs: all, ordered, commuting, listed } = counts;
+            let last = format!("pairs={all} ordered={ordered} commuting={commuting} listed={listed}\n");
+            let mut text = race_lines(&pairs);
+            text.extend_from_slice(last.as_bytes());
+            text
         }
         Err(refusal) => refused(&refusal),
     }
 }
 
+/// A `race` line for each pair. The pairs with one lower event stand side by side.
+fn race_lines(pairs: &[[u8; 2]]) -> Vec<u8> {
+    let ends: Vec<Piece<4>> = (0..=u8::MAX).map(|high| Piece::of(b"", high, b'\n')).collect();
+    let mut text = vec![0; pairs.len() * "race=255,255\n".len()];
+    let mut length = 0;
+    for pairs in pairs.chunk_by(|a, b| a[0] == b[0]) {
+        let start = Piece::<9>::of(b"race=", pairs[0][0], b',');
+        for &[_, high] in pairs {
+            length += start.put(&mut text[length..]);
+            length += ends[usize::from(high)].put(&mut text[length..]);
+        }
+    }
+    text.truncate(length);
+    text
+}
+
+/// A part of a line of at most N bytes. All N are written at once; what is written next covers those past its
+/// length.
+struct Piece<const N: usize> {
+    bytes: [u8; N],
+    length: usize,
+}
+
+impl<const N: usize> Piece<N> {
+    /// A number with what stands before and after it.
+    fn of(before: &[u8], number: u8, after: u8) -> Piece<N> {
+        let mut part = before.to_vec();
+        write::number(&mut part, u16::from(number));
+        part.push(after);
+        let mut bytes = [0; N];
+        bytes[..part.len()].copy_from_slice(&part);
+        Piece { bytes, length: part.len() }
+    }
+
+    /// Writes the part to the start of a room of at least N bytes and gives its length.
+    fn put(&self, room: &mut [u8]) -> usize {
+        room[..N].copy_from_slice(&self.bytes);
+        self.length
+    }
+}
+
 /// `normalise` of a table text: the normal text, or the refusal.
 pub fn normalised(tables: &[u8]) -> Vec<u8> {
-    let mut room = vec![0; TEXT_ROOM];
-    match normalise(tables, &mut room) {
-        Ok(length) => room[..length].to_vec(),
+    let mut text = vec![0; tables.len()];
+    match normalise(tables, &mut text) {
+        Ok(length) => {
+            text.truncate(length);
+            text
+        }
         Err(refusal) => refused(&refusal),
     }
 }
@@ -40,17 +77,12 @@ pub fn normalised(tables: &[u8]) -> Vec<u8> {
 /// `replay_trace` of a trace, tables and an order, the recorded one where none is given: the end tables, then the
 /// answers; or the refusal.
 pub fn replayed(trace: &[u8], tables: &[u8], order: Option<&[u8]>) -> Vec<u8> {
-    let recorded;
-    let order = match order {
-        Some(order) => order,
-        None => {
-            recorded = recorded_order(read_trace(trace).map_or(0, |events| events.len()));
-            &recorded
+    match outcome(trace, tables, order) {
+        Ok((tables, answers)) => {
+            let mut text = normal_text(&tables);
+            put_answers(&mut text, &answers);
+            text
         }
-    };
-    let (mut end, mut answers) = (vec![0; TEXT_ROOM], vec![0; TEXT_ROOM]);
-    match replay(trace, tables, order, &mut end, &mut answers) {
-        Ok(lengths) => [&end[..lengths.tables], &answers[..lengths.answers]].concat(),
         Err(refusal) => refused(&refusal),
     }
 }

@@ -1,8 +1,9 @@
 //! The list of racing pairs, and its counts.
 
 use crate::causality::{happens_before, EventSet};
-use crate::commute::commutes;
+use crate::commute::Flat;
 use crate::refusal::{check_room, Refusal};
+use crate::tables::SWITCHES;
 use crate::trace::{read_trace, Event};
 
 /// How many pairs there are of each kind.
@@ -21,36 +22,72 @@ pub struct Counts {
 /// Writes the list of a trace to the start of `out`, two bytes for each listed pair. A refusal
 /// leaves `out` as it was.
 pub fn list<'a>(trace: &'a [u8], out: &mut [u8]) -> Result<Counts, Refusal<'a>> {
-    let events = read_trace(trace)?;
-    let (counts, pairs) = racing_pairs(&events, &happens_before(&events));
-    check_room(31, 2 * pairs.len(), out.len())?;
-    for (bytes, pair) in out.chunks_exact_mut(2).zip(pairs) {
-        bytes.copy_from_slice(&pair);
-    }
+    let (counts, pairs) = races(trace)?;
+    let bytes = pairs.as_flattened();
+    check_room(31, bytes.len(), out.len())?;
+    out[..bytes.len()].copy_from_slice(bytes);
     Ok(counts)
+}
+
+/// The counts and the listed pairs of a trace.
+pub(crate) fn races(trace: &[u8]) -> Result<(Counts, Vec<[u8; 2]>), Refusal<'_>> {
+    let events = read_trace(trace)?;
+    Ok(racing_pairs(&events, &happens_before(&events)))
+}
+
+/// A table event, with those that happen before it.
+struct TableEvent<'a> {
+    number: u8,
+    before: &'a EventSet,
+    operation: Flat,
 }
 
 /// The counts, and the listed pairs (lower event, higher event) in rising order.
 pub fn racing_pairs(events: &[Event], before: &[EventSet]) -> (Counts, Vec<[u8; 2]>) {
     let mut counts = Counts::default();
-    let mut pairs = Vec::new();
-    for (low, first) in events.iter().enumerate() {
-        let Some((switch, left)) = first.on_table() else { continue };
-        for (high, second) in events.iter().enumerate().skip(low + 1) {
-            let Some((other, right)) = second.on_table() else { continue };
-            if switch != other {
-                continue;
-            }
-            counts.pairs += 1;
-            if before[high].contains(low) {
-                counts.ordered += 1;
-            } else if commutes(left, right) {
-                counts.commuting += 1;
-            } else {
-                counts.listed += 1;
-                pairs.push([low, high].map(|n| u8::try_from(n).expect("at most 256 events")));
-            }
+    let mut listed = Vec::new();
+    let switches = by_switch(events, before);
+    let mut rest = switches.each_ref().map(Vec::as_slice);
+    for (switch, _) in events.iter().filter_map(Event::on_table) {
+        let later = &mut rest[usize::from(switch)];
+        if let Some((first, others)) = later.split_first() {
+            *later = others;
+            pairs_with(first, others, &mut counts, &mut listed);
         }
     }
-    (counts, pairs)
+    counts.listed = listed.len();
+    (counts, listed)
+}
+
+/// The table events of each switch.
+fn by_switch<'a>(events: &[Event], before: &'a [EventSet]) -> [Vec<TableEvent<'a>>; SWITCHES] {
+    let mut switches = [const { Vec::new() }; SWITCHES];
+    for (number, (event, before)) in (0..=u8::MAX).zip(events.iter().zip(before)) {
+        if let Some((switch, operation)) = event.on_table() {
+            let operation = Flat::of(operation);
+            switches[usize::from(switch)].push(TableEvent { number, before, operation });
+        }
+    }
+    switches
+}
+
+/// Counts the pairs of an event with later ones of its switch, and lists those that race.
+fn pairs_with(first: &TableEvent, later: &[TableEvent], counts: &mut Counts, listed: &mut Vec<[u8; 2]>) {
+    let (mut ordered, mut commuting, mut racing) = (0, 0, listed.len());
+    // Room for all, cut afterwards: cheaper than a push for each.
+    listed.resize(racing + later.len(), [0; 2]);
+    for second in later {
+        if second.before.contains(usize::from(first.number)) {
+            ordered += 1;
+        } else if first.operation.commutes(&second.operation) {
+            commuting += 1;
+        } else {
+            listed[racing] = [first.number, second.number];
+            racing += 1;
+        }
+    }
+    listed.truncate(racing);
+    counts.pairs += later.len();
+    counts.ordered += ordered;
+    counts.commuting += commuting;
 }

@@ -5,7 +5,7 @@ use crate::refusal::{check_room, Refusal};
 use crate::table::{Answer, Table};
 use crate::tables::{normal_text, read_tables, Tables};
 use crate::trace::{read_trace, Event};
-use std::fmt::Write;
+use crate::write;
 
 /// The most entries that replay holds.
 const MAX_ENTRIES: usize = 512;
@@ -29,17 +29,32 @@ pub fn replay<'a>(
     tables_out: &mut [u8],
     answers_out: &mut [u8],
 ) -> Result<Lengths, Refusal<'a>> {
+    let (tables, answers) = outcome(trace, tables, Some(order))?;
+    let (end, mut lines) = (normal_text(&tables), Vec::new());
+    put_answers(&mut lines, &answers);
+    check_room(32, end.len(), tables_out.len())?;
+    check_room(33, lines.len(), answers_out.len())?;
+    tables_out[..end.len()].copy_from_slice(&end);
+    answers_out[..lines.len()].copy_from_slice(&lines);
+    Ok(Lengths { tables: end.len(), answers: lines.len() })
+}
+
+/// By event, its answer if it has one.
+pub(crate) type Answers = Vec<Option<Answer>>;
+
+/// The end tables and the answers, in the recorded order where none is given.
+pub(crate) fn outcome<'a>(
+    trace: &'a [u8],
+    tables: &'a [u8],
+    order: Option<&[u8]>,
+) -> Result<(Tables, Answers), Refusal<'a>> {
     let events = read_trace(trace)?;
     let mut tables = read_tables(tables)?;
+    let recorded = recorded_order(events.len());
+    let order = order.unwrap_or(&recorded);
     check_order(order, &happens_before(&events))?;
     let answers = run(&events, order, &mut tables).map_err(|TooMany| Refusal::at(41, 0))?;
-
-    let (end, answers) = (normal_text(&tables), answer_text(&answers));
-    check_room(32, end.len(), tables_out.len())?;
-    check_room(33, answers.len(), answers_out.len())?;
-    tables_out[..end.len()].copy_from_slice(&end);
-    answers_out[..answers.len()].copy_from_slice(&answers);
-    Ok(Lengths { tables: end.len(), answers: answers.len() })
+    Ok((tables, answers))
 }
 
 /// The recorded order of some number of events: 0, 1, 2 and so on.
@@ -50,30 +65,31 @@ pub fn recorded_order(events: usize) -> Vec<u8> {
 /// 21 where the length is wrong or an event is missing; 22 with the lowest position that holds an
 /// event put before one that happens before it.
 pub fn check_order(order: &[u8], before: &[EventSet]) -> Result<(), Refusal<'static>> {
-    let mut position = vec![None; before.len()];
-    for (at, &event) in order.iter().enumerate() {
-        if let Some(place) = position.get_mut(usize::from(event)) {
-            *place = Some(at);
-        }
-    }
-    let position: Option<Vec<usize>> = position.into_iter().collect();
-    let (Some(position), true) = (position, order.len() == before.len()) else {
+    if !has_each_once(order, before.len()) {
         return Err(Refusal::at(21, 0));
-    };
+    }
+    let mut taken = EventSet::default();
     for (at, &event) in order.iter().enumerate() {
-        let must_precede = &before[usize::from(event)];
-        if (0..before.len()).any(|other| must_precede.contains(other) && at < position[other]) {
+        if !before[usize::from(event)].within(&taken) {
             return Err(Refusal::at(22, at));
         }
+        taken.insert(usize::from(event));
     }
     Ok(())
+}
+
+/// Whether an order has each of some number of events, and as many places.
+fn has_each_once(order: &[u8], events: usize) -> bool {
+    let mut found = EventSet::default();
+    order.iter().for_each(|&event| found.insert(usize::from(event)));
+    order.len() == events && (0..events).all(|event| found.contains(event))
 }
 
 /// More than 512 entries would be held.
 struct TooMany;
 
 /// Takes the events from the front of the order, and keeps each answer under its event's number.
-fn run(events: &[Event], order: &[u8], tables: &mut Tables) -> Result<Vec<Option<Answer>>, TooMany> {
+fn run(events: &[Event], order: &[u8], tables: &mut Tables) -> Result<Answers, TooMany> {
     let mut answers = vec![None; events.len()];
     for &number in order {
         let number = usize::from(number);
@@ -87,20 +103,29 @@ fn run(events: &[Event], order: &[u8], tables: &mut Tables) -> Result<Vec<Option
     Ok(answers)
 }
 
-/// The answer lines by rising event.
-fn answer_text(answers: &[Option<Answer>]) -> Vec<u8> {
-    let mut text = String::new();
-    for (event, answer) in answers.iter().enumerate() {
+/// Puts the answer lines, by rising event, to the end of a text.
+pub(crate) fn put_answers(text: &mut Vec<u8>, answers: &Answers) {
+    for (event, answer) in (0..).zip(answers) {
         let Some(answer) = answer else { continue };
-        match answer {
-            Answer::Miss => writeln!(text, "ev={event} hit=-"),
-            Answer::Hit { priority, count, action } => {
-                writeln!(text, "ev={event} hit={priority},{count},{action}")
-            }
-            Answer::Yes => writeln!(text, "ev={event} done=yes"),
-            Answer::No => writeln!(text, "ev={event} done=no"),
-        }
-        .expect("a string takes all");
+        text.extend_from_slice(b"ev=");
+        write::number(text, event);
+        put_answer(text, answer);
+        text.push(b'\n');
     }
-    text.into_bytes()
+}
+
+fn put_answer(text: &mut Vec<u8>, answer: &Answer) {
+    match *answer {
+        Answer::Miss => text.extend_from_slice(b" hit=-"),
+        Answer::Hit { priority, count, action } => {
+            text.extend_from_slice(b" hit=");
+            write::number(text, priority);
+            text.push(b',');
+            write::number(text, u16::try_from(count).expect("at most 512 entries"));
+            text.push(b',');
+            write::action(text, action);
+        }
+        Answer::Yes => text.extend_from_slice(b" done=yes"),
+        Answer::No => text.extend_from_slice(b" done=no"),
+    }
 }

@@ -1,7 +1,7 @@
 //! A flow table, and what each event does to it and answers.
 
 use crate::flow::{Action, Entry, Key, Match, Packet};
-use std::collections::BTreeMap;
+use crate::packed::{Bits, Row};
 
 /// An event that uses a table.
 #[derive(Clone, Copy, Debug, PartialEq, Eq)]
@@ -42,86 +42,111 @@ pub enum Answer {
     No,
 }
 
-/// The entries of one switch, in table order.
+/// The entries of one switch.
 #[derive(Clone, Debug, Default, PartialEq, Eq)]
 pub struct Table {
-    entries: BTreeMap<Key, Action>,
+    /// In table order.
+    rows: Vec<Row>,
 }
 
 impl Table {
     /// The entries in table order.
     pub fn entries(&self) -> impl Iterator<Item = Entry> + '_ {
-        self.entries.iter().map(|(&key, &action)| Entry { key, action })
+        self.rows.iter().map(Row::entry)
+    }
+
+    /// The entries in table order, as rows.
+    pub(crate) fn rows(&self) -> &[Row] {
+        &self.rows
+    }
+
+    /// Puts in a row that stands after all others in table order.
+    pub(crate) fn push(&mut self, row: Row) {
+        self.rows.push(row);
     }
 
     /// How many entries there are.
     pub fn len(&self) -> usize {
-        self.entries.len()
+        self.rows.len()
     }
 
     /// Whether there is no entry.
     pub fn is_empty(&self) -> bool {
-        self.entries.is_empty()
-    }
-
-    /// Sets the action of the entry's key; answers whether that key was absent.
-    pub fn set(&mut self, entry: Entry) -> bool {
-        self.entries.insert(entry.key, entry.action).is_none()
+        self.rows.is_empty()
     }
 
     /// Does an event, and gives its answer, if it has one.
     pub fn apply(&mut self, operation: &TableOperation) -> Option<Answer> {
         match operation {
             TableOperation::Packet(packet) => return Some(self.look_up(packet)),
-            TableOperation::CheckedAdd(entry) => return Some(self.checked_add(*entry)),
-            TableOperation::Add(entry) | TableOperation::StrictModify(entry) => {
-                self.set(*entry);
-            }
-            TableOperation::Modify(entry) => self.modify(*entry),
-            TableOperation::StrictDelete(key) => {
-                self.entries.remove(key);
-            }
+            TableOperation::CheckedAdd(entry) => return Some(self.checked_add(Row::of(entry))),
+            TableOperation::Add(entry) | TableOperation::StrictModify(entry) => self.set(Row::of(entry)),
+            TableOperation::Modify(entry) => self.modify(Row::of(entry)),
+            TableOperation::StrictDelete(key) => self.remove(key),
             TableOperation::Delete(matching) => {
-                self.entries.retain(|key, _| !key.matching.within(matching));
+                let bits = Bits::of(matching);
+                self.rows.retain(|row| !row.bits.within(&bits));
             }
         }
         None
     }
 
+    /// Where the row of a row's key stands, or else where it would stand.
+    fn place(&self, row: &Row) -> Result<usize, usize> {
+        self.rows.binary_search_by_key(&row.rank(), Row::rank)
+    }
+
+    fn set(&mut self, row: Row) {
+        match self.place(&row) {
+            Ok(at) => self.rows[at] = row,
+            Err(at) => self.rows.insert(at, row),
+        }
+    }
+
+    fn remove(&mut self, key: &Key) {
+        if let Ok(at) = self.place(&Row::new(key, Action::Drop)) {
+            self.rows.remove(at);
+        }
+    }
+
     fn look_up(&self, packet: &Packet) -> Answer {
-        let mut fitting = self.entries().filter(|entry| entry.key.matching.fits(packet));
+        let packet = Bits::of(&packet.as_match());
+        let mut fitting = self.rows.iter().filter(|row| row.bits.overlaps(&packet));
         let Some(first) = fitting.next() else {
             return Answer::Miss;
         };
-        let priority = first.key.priority;
-        let others = fitting.take_while(|entry| entry.key.priority == priority).count();
-        Answer::Hit { priority: priority.0, count: 1 + others, action: first.action }
+        let others = fitting.take_while(|row| row.priority == first.priority).count();
+        Answer::Hit { priority: first.priority, count: 1 + others, action: first.action }
     }
 
-    fn checked_add(&mut self, entry: Entry) -> Answer {
-        if self.entries.keys().any(|key| key.clashes(&entry.key)) {
+    fn checked_add(&mut self, row: Row) -> Answer {
+        let start = self.rows.partition_point(|other| other.priority > row.priority);
+        let mut equals = self.rows[start..].iter().take_while(|other| other.priority == row.priority);
+        if equals.any(|other| other.bits.overlaps(&row.bits)) {
             return Answer::No;
         }
-        self.set(entry);
+        self.set(row);
         Answer::Yes
     }
 
-    fn modify(&mut self, entry: Entry) {
+    fn modify(&mut self, row: Row) {
         let mut found = false;
-        for (key, action) in &mut self.entries {
-            if key.matching.within(&entry.key.matching) {
-                *action = entry.action;
+        for other in &mut self.rows {
+            if other.bits.within(&row.bits) {
+                other.action = row.action;
                 found = true;
             }
         }
         if !found {
-            self.set(entry);
+            self.set(row);
         }
     }
 }
 
 impl FromIterator<Entry> for Table {
     fn from_iter<I: IntoIterator<Item = Entry>>(entries: I) -> Table {
-        Table { entries: entries.into_iter().map(|e| (e.key, e.action)).collect() }
+        let mut table = Table::default();
+        entries.into_iter().for_each(|entry| table.set(Row::of(&entry)));
+        table
     }
 }

@@ -1,4 +1,4 @@
-//! The lines of a text, and the items of a line.
+//! Texts, read from the front.
 
 use crate::flow::{Action, Entry, Exact, Key, Match, Packet, Prefix};
 
@@ -12,157 +12,202 @@ pub fn lines(text: &[u8]) -> impl Iterator<Item = &[u8]> {
     text.split_inclusive(|&byte| byte == b'\n').filter_map(|line| line.strip_suffix(b"\n"))
 }
 
-/// The first fault of a text as a whole: 1 over 65,535 bytes, 2 last byte not LF, 3 over 256 lines.
-pub fn whole_fault(text: &[u8]) -> Option<u8> {
+/// How many lines a text has; or its first fault as a whole: 1 over 65,535 bytes, 2 last byte not LF, 3 over 256
+/// lines.
+pub fn line_count(text: &[u8]) -> Result<usize, u8> {
     if text.len() > MAX_BYTES {
-        Some(1)
-    } else if text.last().is_some_and(|&byte| byte != b'\n') {
-        Some(2)
-    } else if lines(text).count() > MAX_LINES {
-        Some(3)
-    } else {
-        None
+        return Err(1);
     }
+    if text.last().is_some_and(|&byte| byte != b'\n') {
+        return Err(2);
+    }
+    // Counted in single bytes, many at once.
+    let count = |part: &[u8]| part.iter().fold(0u8, |count, &byte| count + u8::from(byte == b'\n'));
+    let lines = text.chunks(255).map(|part| usize::from(count(part))).sum();
+    if lines > MAX_LINES {
+        return Err(3);
+    }
+    Ok(lines)
 }
 
-/// The `key=value` items of a line, taken from the front. `None` means that the line is malformed.
+/// What is left of a text. `None` means that the line is malformed: no part of a line has an LF, so reading
+/// never gets past the line's end but by [`end_of_line`](Items::end_of_line).
 pub struct Items<'a> {
-    rest: std::slice::Split<'a, u8, fn(&u8) -> bool>,
+    rest: &'a [u8],
 }
 
 impl<'a> Items<'a> {
-    /// All items of a line.
-    pub fn of(line: &'a [u8]) -> Items<'a> {
-        Items { rest: line.split(|&byte| byte == b' ') }
+    /// All of a text.
+    pub fn of(text: &'a [u8]) -> Items<'a> {
+        Items { rest: text }
     }
 
-    /// The value of the next item, which must have this key.
-    pub fn value(&mut self, key: &str) -> Option<&'a [u8]> {
-        self.rest.next()?.strip_prefix(key.as_bytes())?.strip_prefix(b"=")
+    /// What is left.
+    pub fn rest(&self) -> &'a [u8] {
+        self.rest
     }
 
-    /// Asks that no item is left.
-    pub fn end(mut self) -> Option<()> {
-        self.rest.next().is_none().then_some(())
+    /// Whether nothing is left.
+    pub fn is_empty(&self) -> bool {
+        self.rest.is_empty()
     }
 
-    /// A whole number up to a largest value.
-    pub fn number(&mut self, key: &str, max: u16) -> Option<u16> {
-        number(self.value(key)?, max)
+    /// Passes over some bytes: a key with the space before it and its `=`, or a part of a value.
+    pub fn pass(&mut self, bytes: &[u8]) -> Option<()> {
+        self.rest = self.rest.strip_prefix(bytes)?;
+        Some(())
+    }
+
+    /// Passes over the LF of a line.
+    pub fn end_of_line(&mut self) -> Option<()> {
+        self.pass(b"\n")
+    }
+
+    /// The lowercase letters that come next.
+    pub fn word(&mut self) -> &'a [u8] {
+        let length = self.rest.iter().take_while(|byte| byte.is_ascii_lowercase()).count();
+        let (word, rest) = self.rest.split_at(length);
+        self.rest = rest;
+        word
+    }
+
+    /// A decimal number without leading zeros, at most `max`.
+    pub fn number(&mut self, max: u16) -> Option<u16> {
+        let digits = self.rest;
+        let (mut value, mut length) = (0u32, 0);
+        while let Some(digit @ b'0'..=b'9') = digits.get(length) {
+            value = value.wrapping_mul(10).wrapping_add(u32::from(digit - b'0'));
+            length += 1;
+        }
+        self.rest = &digits[length..];
+        let leading_zero = length > 1 && digits[0] == b'0';
+        let is_good = (1..=5).contains(&length) && !leading_zero && value <= u32::from(max);
+        is_good.then_some(value as u16)
     }
 
     /// A number up to 255.
-    pub fn byte(&mut self, key: &str) -> Option<u8> {
-        u8::try_from(self.number(key, 255)?).ok()
+    pub fn byte(&mut self) -> Option<u8> {
+        self.number(255).map(|number| number as u8)
     }
 
     /// The number of a switch.
     pub fn switch(&mut self) -> Option<u8> {
-        u8::try_from(self.number("sw", 15)?).ok()
+        self.number(15).map(|number| number as u8)
     }
 
     /// `*`, or a whole number up to a largest value.
-    fn any_or_number(&mut self, key: &str, max: u16) -> Option<Exact<u16>> {
-        match self.value(key)? {
-            b"*" => Some(None),
-            value => number(value, max).map(Some),
+    fn any_or_number(&mut self, max: u16) -> Option<Exact<u16>> {
+        match self.pass(b"*") {
+            Some(()) => Some(None),
+            None => self.number(max).map(Some),
         }
+    }
+
+    /// Eight lowercase hexadecimal digits.
+    fn address(&mut self) -> Option<u32> {
+        let (digits, rest) = self.rest.split_first_chunk::<8>()?;
+        self.rest = rest;
+        let value = digits.iter().fold(0, |value, &digit| value << 4 | DIGITS[usize::from(digit)]);
+        u32::try_from(value).ok()
     }
 
     /// An address with a length; bits past the length are not looked at yet.
-    fn prefix(&mut self, key: &str) -> Option<Prefix> {
-        let (value, len) = self.value(key)?.split_at_checked(8)?;
-        let len = number(len.strip_prefix(b"/")?, 32)?;
-        Some(Prefix { value: address(value)?, len: u8::try_from(len).ok()? })
+    fn prefix(&mut self) -> Option<Prefix> {
+        let value = self.address()?;
+        self.pass(b"/")?;
+        Some(Prefix { value, len: self.number(32)? as u8 })
     }
 
-    /// The six fields of a match.
+    /// The six fields of a match, with the space before them.
     pub fn matching(&mut self) -> Option<Match> {
-        Some(Match {
-            port: self.any_or_number("port", u16::MAX)?,
-            src: self.prefix("src")?,
-            dst: self.prefix("dst")?,
-            proto: match self.any_or_number("proto", 255)? {
-                None => None,
-                Some(n) => Some(u8::try_from(n).ok()?),
-            },
-            sport: self.any_or_number("sport", u16::MAX)?,
-            dport: self.any_or_number("dport", u16::MAX)?,
-        })
+        self.pass(b" port=")?;
+        let port = self.any_or_number(u16::MAX)?;
+        self.pass(b" src=")?;
+        let src = self.prefix()?;
+        self.pass(b" dst=")?;
+        let dst = self.prefix()?;
+        self.pass(b" proto=")?;
+        let proto = self.any_or_number(255)?.map(|number| number as u8);
+        self.pass(b" sport=")?;
+        let sport = self.any_or_number(u16::MAX)?;
+        self.pass(b" dport=")?;
+        let dport = self.any_or_number(u16::MAX)?;
+        Some(Match { port, src, dst, proto, sport, dport })
     }
 
-    /// The six fields of a packet.
+    /// The six fields of a packet, with the space before them.
     pub fn packet(&mut self) -> Option<Packet> {
-        Some(Packet {
-            port: self.number("port", u16::MAX)?,
-            src: address(self.value("src")?)?,
-            dst: address(self.value("dst")?)?,
-            proto: self.byte("proto")?,
-            sport: self.number("sport", u16::MAX)?,
-            dport: self.number("dport", u16::MAX)?,
-        })
+        self.pass(b" port=")?;
+        let port = self.number(u16::MAX)?;
+        self.pass(b" src=")?;
+        let src = self.address()?;
+        self.pass(b" dst=")?;
+        let dst = self.address()?;
+        self.pass(b" proto=")?;
+        let proto = self.byte()?;
+        self.pass(b" sport=")?;
+        let sport = self.number(u16::MAX)?;
+        self.pass(b" dport=")?;
+        let dport = self.number(u16::MAX)?;
+        Some(Packet { port, src, dst, proto, sport, dport })
     }
 
-    /// `prio` and the six fields.
+    /// `prio` and the six fields, with the space before them.
     pub fn key(&mut self) -> Option<Key> {
-        let priority = self.number("prio", u16::MAX)?;
+        self.pass(b" prio=")?;
+        let priority = self.number(u16::MAX)?;
         Some(Key::new(priority, self.matching()?))
     }
 
-    /// A key and `act`.
+    /// A key and `act`, with the space before them.
     pub fn entry(&mut self) -> Option<Entry> {
-        Some(Entry { key: self.key()?, action: action(self.value("act")?)? })
+        let key = self.key()?;
+        self.pass(b" act=")?;
+        Some(Entry { key, action: self.action()? })
+    }
+
+    /// `drop`, `ctl` or `pN`.
+    fn action(&mut self) -> Option<Action> {
+        if self.pass(b"p").is_some() {
+            return self.number(u16::MAX).map(Action::Port);
+        }
+        match self.word() {
+            b"drop" => Some(Action::Drop),
+            b"ctl" => Some(Action::Controller),
+            _ => None,
+        }
     }
 
     /// `-`, or one to four token numbers, strictly rising, with commas.
-    pub fn tokens(&mut self, key: &str) -> Option<Vec<u16>> {
-        let value = self.value(key)?;
-        if value == b"-" {
-            return Some(Vec::new());
+    pub fn tokens(&mut self) -> Option<Vec<u16>> {
+        let mut tokens = Vec::new();
+        if self.pass(b"-").is_some() {
+            return Some(tokens);
         }
-        let tokens: Vec<u16> =
-            value.split(|&b| b == b',').map(|t| number(t, u16::MAX)).collect::<Option<_>>()?;
-        let rising = tokens.windows(2).all(|two| two[0] < two[1]);
-        (tokens.len() <= 4 && rising).then_some(tokens)
+        loop {
+            let token = self.number(u16::MAX)?;
+            if tokens.len() == 4 || tokens.last().is_some_and(|&last| token <= last) {
+                return None;
+            }
+            tokens.push(token);
+            if self.pass(b",").is_none() {
+                return Some(tokens);
+            }
+        }
     }
 }
 
-/// A decimal number without leading zeros, at most `max`.
-fn number(digits: &[u8], max: u16) -> Option<u16> {
-    let leading_zero = digits.len() > 1 && digits[0] == b'0';
-    if digits.is_empty() || leading_zero {
-        return None;
+/// The values of the hexadecimal digits; too large for an address for all other bytes.
+const DIGITS: [u64; 256] = {
+    let mut values = [1 << 32; 256];
+    let digits = b"0123456789abcdef";
+    let mut value = 0;
+    while value < digits.len() {
+        values[digits[value] as usize] = value as u64;
+        value += 1;
     }
-    let value = digits.iter().try_fold(0u16, |value, digit| {
-        let digit = digit.is_ascii_digit().then(|| u16::from(digit - b'0'))?;
-        value.checked_mul(10)?.checked_add(digit)
-    })?;
-    (value <= max).then_some(value)
-}
-
-/// Eight lowercase hexadecimal digits.
-fn address(digits: &[u8]) -> Option<u32> {
-    if digits.len() != 8 {
-        return None;
-    }
-    digits.iter().try_fold(0u32, |value, digit| {
-        let digit = match digit {
-            b'0'..=b'9' => digit - b'0',
-            b'a'..=b'f' => digit - b'a' + 10,
-            _ => return None,
-        };
-        Some(value << 4 | u32::from(digit))
-    })
-}
-
-/// `drop`, `ctl` or `pN`.
-fn action(value: &[u8]) -> Option<Action> {
-    match value {
-        b"drop" => Some(Action::Drop),
-        b"ctl" => Some(Action::Controller),
-        _ => number(value.strip_prefix(b"p")?, u16::MAX).map(Action::Port),
-    }
-}
+    values
+};
 
 #[cfg(test)]
 mod tests {
@@ -170,12 +215,36 @@ mod tests {
 
     #[test]
     fn numbers() {
+        // A number that is all of its text.
+        let number = |digits: &[u8], max| {
+            let mut items = Items::of(digits);
+            items.number(max).filter(|_| items.is_empty())
+        };
         assert_eq!(number(b"0", 65535), Some(0));
         assert_eq!(number(b"65535", 65535), Some(65535));
         for bad in ["", "00", "01", "65536", "99999999999", "-1", "+1", "1 ", "1a", "0x1"] {
             assert_eq!(number(bad.as_bytes(), 65535), None, "{bad}");
         }
+        // Past the width of an integer.
+        for bad in ["100000", "4294967296", "4294967297", "18446744073709551616"] {
+            assert_eq!(number(bad.as_bytes(), 65535), None, "{bad}");
+        }
         assert_eq!(number(b"33", 32), None);
+    }
+
+    #[test]
+    fn addresses() {
+        assert_eq!(Items::of(b"0a1f9000").address(), Some(0x0a1f_9000));
+        assert_eq!(Items::of(b"ffffffff").address(), Some(u32::MAX));
+        for at in 0..8 {
+            for byte in 0..=u8::MAX {
+                let mut digits = *b"01234567";
+                digits[at] = byte;
+                let is_digit = byte.is_ascii_digit() || (b'a'..=b'f').contains(&byte);
+                assert_eq!(Items::of(&digits).address().is_some(), is_digit, "{}", digits.escape_ascii());
+            }
+        }
+        assert_eq!(Items::of(b"0000000").address(), None);
     }
 
     #[test]
@@ -183,9 +252,11 @@ mod tests {
         assert_eq!(lines(b"").count(), 0);
         assert_eq!(lines(b"\n").collect::<Vec<_>>(), [b""]);
         assert_eq!(lines(b"a\n\nb\n").collect::<Vec<_>>(), [&b"a"[..], b"", b"b"]);
-        assert_eq!(whole_fault(&[b'\n'; 256]), None);
-        assert_eq!(whole_fault(&[b'\n'; 257]), Some(3));
-        assert_eq!(whole_fault(&[b'a'; 65_535]), Some(2));
-        assert_eq!(whole_fault(&[b'a'; 65_536]), Some(1));
+        assert_eq!(line_count(b""), Ok(0));
+        assert_eq!(line_count(b"a\n\nb\n"), Ok(3));
+        assert_eq!(line_count(&[b'\n'; 256]), Ok(256));
+        assert_eq!(line_count(&[b'\n'; 257]), Err(3));
+        assert_eq!(line_count(&[b'a'; 65_535]), Err(2));
+        assert_eq!(line_count(&[b'a'; 65_536]), Err(1));
     }
 }

@@ -3,7 +3,6 @@
 use crate::refusal::Refusal;
 use crate::table::TableOperation;
 use crate::text::{self, Items};
-use std::collections::HashMap;
 
 /// One line of a trace.
 #[derive(Clone, Debug, PartialEq, Eq)]
@@ -41,13 +40,13 @@ impl Event {
 
 /// The events of a trace text, or the first refusal in document 01's order of checks.
 pub fn read_trace(text: &[u8]) -> Result<Vec<Event>, Refusal<'_>> {
-    if let Some(number) = text::whole_fault(text) {
-        return Err(Refusal::at(number, 0));
-    }
-    let mut events = Vec::new();
-    for (index, line) in text::lines(text).enumerate() {
-        let refused = |number| Refusal { number, place: index, line };
-        let (number, event) = read_line(line).ok_or(refused(4))?;
+    let lines = text::line_count(text).map_err(|number| Refusal::at(number, 0))?;
+    let mut events = Vec::with_capacity(lines);
+    let mut items = Items::of(text);
+    while !items.is_empty() {
+        let index = events.len();
+        let refused = |number| Refusal::of_line(number, text, index);
+        let (number, event) = read_line(&mut items).ok_or_else(|| refused(4))?;
         if usize::from(number) != index {
             return Err(refused(5));
         }
@@ -61,23 +60,34 @@ pub fn read_trace(text: &[u8]) -> Result<Vec<Event>, Refusal<'_>> {
 }
 
 /// The number and the event of a line, or nothing where it is malformed or a value is out of range.
-fn read_line(line: &[u8]) -> Option<(u8, Event)> {
-    let mut items = Items::of(line);
-    let number = items.byte("ev")?;
-    let word = items.value("do")?;
-    let taken = items.tokens("in")?;
-    let put = items.tokens("out")?;
-    let operation = match word {
-        b"oth" => Operation::Other,
-        b"bar" => Operation::Barrier(items.switch()?),
-        b"msg" => Operation::Message(items.switch()?),
-        _ => Operation::Table(items.switch()?, read_operation(word, &mut items)?),
-    };
-    items.end()?;
+fn read_line(items: &mut Items) -> Option<(u8, Event)> {
+    items.pass(b"ev=")?;
+    let number = items.byte()?;
+    items.pass(b" do=")?;
+    let word = items.word();
+    items.pass(b" in=")?;
+    let taken = items.tokens()?;
+    items.pass(b" out=")?;
+    let put = items.tokens()?;
+    let operation = read_operation(word, items)?;
+    items.end_of_line()?;
     Some((number, Event { operation, taken, put }))
 }
 
-fn read_operation(word: &[u8], items: &mut Items) -> Option<TableOperation> {
+fn read_operation(word: &[u8], items: &mut Items) -> Option<Operation> {
+    if word == b"oth" {
+        return Some(Operation::Other);
+    }
+    items.pass(b" sw=")?;
+    let switch = items.switch()?;
+    Some(match word {
+        b"bar" => Operation::Barrier(switch),
+        b"msg" => Operation::Message(switch),
+        _ => Operation::Table(switch, read_table_operation(word, items)?),
+    })
+}
+
+fn read_table_operation(word: &[u8], items: &mut Items) -> Option<TableOperation> {
     Some(match word {
         b"pkt" => TableOperation::Packet(items.packet()?),
         b"add" => TableOperation::Add(items.entry()?),
@@ -104,19 +114,41 @@ fn is_clear(event: &Event) -> bool {
 /// 7 with the lowest line that puts out a token of an earlier line; then 8 with the lowest line that
 /// takes in a token put out on this or a later line.
 fn check_tokens(events: &[Event]) -> Result<(), (u8, usize)> {
-    let mut put_on: HashMap<u16, usize> = HashMap::new();
-    for (index, event) in events.iter().enumerate() {
-        for &token in &event.put {
-            if put_on.insert(token, index).is_some() {
-                return Err((7, index));
+    let put_on = PutOn::of(events).map_err(|index| (7, index))?;
+    let takes_early = |(index, event): (usize, &Event)| {
+        event.taken.iter().any(|&token| put_on.line(token).is_some_and(|line| index <= line))
+    };
+    match events.iter().enumerate().position(takes_early) {
+        Some(index) => Err((8, index)),
+        None => Ok(()),
+    }
+}
+
+/// The line that puts out each token.
+pub(crate) struct PutOn {
+    /// 1 and the line by token, 0 where there is none; up to the largest token that is put out.
+    lines: Vec<u16>,
+}
+
+impl PutOn {
+    /// Of all events of a trace; or the lowest line that puts out a token of an earlier one.
+    pub(crate) fn of(events: &[Event]) -> Result<PutOn, usize> {
+        let largest = events.iter().filter_map(|event| event.put.last()).max();
+        let mut lines = vec![0; largest.map_or(0, |&token| usize::from(token) + 1)];
+        for (index, event) in (0..).zip(events) {
+            for &token in &event.put {
+                let line = &mut lines[usize::from(token)];
+                if *line != 0 {
+                    return Err(usize::from(index));
+                }
+                *line = index + 1;
             }
         }
+        Ok(PutOn { lines })
     }
-    for (index, event) in events.iter().enumerate() {
-        let early = |token| put_on.get(token).is_some_and(|&line| index <= line);
-        if event.taken.iter().any(early) {
-            return Err((8, index));
-        }
+
+    /// The line that puts out a token, if there is one.
+    pub(crate) fn line(&self, token: u16) -> Option<usize> {
+        self.lines.get(usize::from(token)).and_then(|&line| usize::from(line).checked_sub(1))
     }
-    Ok(())
 }

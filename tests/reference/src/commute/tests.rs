@@ -1,8 +1,12 @@
 //! The table of pairs against brute force: both orders are run on all small tables.
 
-use super::*;
+use super::{commutes, Flat};
 use crate::flow::{Action, Entry, Key, Match, Prefix};
+use crate::packed::tests::random_match;
 use crate::table::Table;
+use crate::table::TableOperation::{
+    self, Add, CheckedAdd, Delete, Modify, Packet, StrictDelete, StrictModify,
+};
 use random::Random;
 
 const A: Match = dst(0x0a00_0000, 8);
@@ -54,6 +58,7 @@ fn check(a: &TableOperation, b: &TableOperation, tables: &[Table]) {
     let told_apart = tables.iter().find(|table| !agree_on(table, a, b));
     assert_eq!(commutes(a, b), told_apart.is_none(), "{a:?}\n{b:?}\n{told_apart:?}");
     assert_eq!(commutes(a, b), commutes(b, a), "{a:?}\n{b:?}");
+    assert_eq!(commutes(a, b), Flat::of(a).by_table(&Flat::of(b)), "{a:?}\n{b:?}");
 }
 
 #[test]
@@ -149,23 +154,6 @@ fn meet(a: &Match, b: &Match) -> Option<(crate::flow::Packet, Match)> {
         dport: meet.dport.unwrap_or(9),
     };
     Some((packet, meet))
-}
-
-fn random_match(random: &mut Random) -> Match {
-    let mut prefix = || {
-        let len = random.pick(&[0, 0, 0, 1, 2, 31, 32]);
-        let value = random.pick(&[0, 0, 1, 1 << 31, u32::MAX]);
-        let cut = if len == 0 { 0 } else { value & (u32::MAX << (32 - u32::from(len))) };
-        Prefix { value: cut, len }
-    };
-    Match {
-        src: prefix(),
-        dst: prefix(),
-        port: random.pick(&[None, None, None, Some(0), Some(65_535)]),
-        proto: random.pick(&[None, None, None, Some(0), Some(255)]),
-        sport: random.pick(&[None, None, None, Some(0)]),
-        dport: random.pick(&[None, None, None, Some(80)]),
-    }
 }
 
 /// Random pairs over all six fields, on all tables of at most two entries with the matches of the

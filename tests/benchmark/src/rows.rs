@@ -1,0 +1,45 @@
+//! What is measured.
+
+use cases::{tables, traces};
+
+/// A row of the tables: a call, or the process that makes it.
+pub struct Row {
+    /// What the input is.
+    pub name: &'static str,
+    /// The call and its input.
+    pub input: Input,
+}
+
+/// A call and its input.
+pub enum Input {
+    /// `list` of a trace.
+    List(Vec<u8>),
+    /// `normalise` of a table text.
+    Normalise(Vec<u8>),
+    /// `replay` of a trace from a table text, in the recorded order.
+    Replay(Vec<u8>, Vec<u8>),
+}
+
+/// All rows.
+pub fn rows() -> Vec<Row> {
+    let list = |name, trace| Row { name, input: Input::List(trace) };
+    let normalise = |name, tables| Row { name, input: Input::Normalise(tables) };
+    let replay = |name, trace| Row { name, input: Input::Replay(trace, tables::reversed()) };
+    vec![
+        list("empty input (floor)", Vec::new()),
+        list("256 adds of one key: 32,640 pairs listed", traces::all_racing()),
+        list("256 modifies of one key: 32,640 pairs listed", traces::all_racing_modifies()),
+        list("256 adds, different keys: 32,640 pairs commute", traces::long_adds()),
+        list("256 `addc`: 32,640 pairs commute", traces::long_checked_adds()),
+        list("token chain of 256 adds", traces::token_chain()),
+        list("128 adds with a barrier after each", traces::barriers()),
+        list("256 barriers", traces::only_barriers()),
+        normalise("empty input (floor)", Vec::new()),
+        normalise("256 lines typed in reverse", tables::reversed()),
+        Row { name: "empty inputs (floor)", input: Input::Replay(Vec::new(), Vec::new()) },
+        replay("256 adds onto 256 entries", traces::long_adds()),
+        replay("256 `addc` onto 256 entries", traces::long_checked_adds()),
+        replay("256 `modn` of 256 entries", traces::all_racing_modifies()),
+        replay("256 `pkt` onto 256 entries", traces::packets_to_the_last()),
+    ]
+}

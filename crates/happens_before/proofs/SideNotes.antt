@@ -4,13 +4,13 @@ use native.Mathlib.Decide.{ℕ-discrete}
 use native.Mathlib.Numerals.{add-one}
 use native.Mathlib.Omega.{arith}
 use mathlib.Core.Path.{_≡_, sym, ap₂, _∙_}
-use mathlib.Core.Bool.{Bool, false, or-false}
+use mathlib.Core.Bool.{Bool, true, false, or-false}
 use mathlib.Core.List.{List}
 use lib.ListN.{length, getD, set}
 use lib.Seq.{getD-set-same, getD-set-other}
 use Rattle.trace_events.specs.Events.{eventsOf, noEvent}
-use Rattle.trace_events.specs.Inner.{noSide, sideOf, maybeBefore}
-use Rattle.trace_events.proofs.SideLaws.{never-before}
+use Rattle.trace_events.specs.Inner.{noSide, sideOf, sideStep, mayPassTo}
+use Rattle.trace_events.proofs.SideLaws.{by-barrier, by-neither}
 use Rattle.basics.specs.Searches.{anyBelow}
 use Rattle.happens_before.specs.Types.{Side, Event, Trace}
 use Rattle.happens_before.specs.Causality.{step, through}
@@ -28,10 +28,16 @@ pub noted-more : (t : Trace) (n : ℕ) (sides : List Side) {s : Side} → n < le
 noted-more t n sides {s} l e f k m =
     elim (ℕ-discrete k n) [ yes u ↦ rw (u, getD-set-same sides n s noSide l) e | no ne ↦ rw (getD-set-other sides n k s noSide ne) (f k (omega arith)) ]
 
--- where the sides tell, there is no step
-pub no-step : (t : Trace) → t .len ≤ length (t .events) → (sides : List Side) (j k : ℕ) → Noted t j sides → k < j → j < t .len → {s : Side}
-    → s ≡ sideAt t j → maybeBefore (getD sides k noSide) s ≡ false → step (eventsOf t) k j ≡ false
-no-step t h sides j k f l m e g = step-at t h k j l m ∙ never-before _ _ (ap₂ maybeBefore (sym (f k l)) (sym e) ∙ g)
+-- what the sides tell of a step from k to j
+module _ (t : Trace) (fits : t .len ≤ length (t .events)) (sides : List Side) (j k : ℕ) (f : Noted t j sides) (l : k < j) (m : j < t .len) {s : Side} (e : s ≡ sideAt t j) where
+  as-noted : {A : Type 0} (p : Side → Side → A) → p (sideAt t k) (sideAt t j) ≡ p (getD sides k noSide) s
+  as-noted p = ap₂ p (sym (f k l)) (sym e)
+
+  pub a-step : sideStep (getD sides k noSide) s ≡ true → step (eventsOf t) k j ≡ true
+  a-step g = step-at t fits k j l m ∙ by-barrier _ _ (as-noted sideStep ∙ g)
+
+  pub no-step : sideStep (getD sides k noSide) s ≡ false → mayPassTo (getD sides k noSide) s ≡ false → step (eventsOf t) k j ≡ false
+  no-step g h = step-at t fits k j l m ∙ by-neither _ _ (as-noted sideStep ∙ g) (as-noted mayPassTo ∙ h)
 
 -- a turn of filling the row of j without event k, which does not directly precede it
 pub passed-by : (es : List Event) (i j k : ℕ) {y : Bool} → y ≡ anyBelow (through es i j) k → step es k j ≡ false → y ≡ anyBelow (through es i j) (k + 1)

@@ -10,7 +10,7 @@ ghost use Rattle.happens_before.specs.Inner.{bit, HappensBefore};
 
 // For each event the set of those before it: the union of its direct predecessors and their rows, which are filled already. Past the
 // last event the rows stay empty. Both loops stand here, since an inner call would copy the events at each turn; of most pairs the two
-// sides tell that the earlier event does not directly precede the later one.
+// sides tell whether the earlier event directly precedes the later one.
 pub fn happens_before(t: Trace) -> [[u64; 4]; 256]
     requires { ⌜ t .len ≤ 256 ⌝ }
     ensures { λ r. ⌜ HappensBefore (eventsOf t) r ⌝ }
@@ -25,7 +25,13 @@ pub fn happens_before(t: Trace) -> [[u64; 4]; 256]
         let mut set = [0u64; 4];
         for k in 0..j {
             let side = sides[k];
-            if !side.maybe_before(later) {
+            if side.barrier_step(later) {
+                let known = rows[k];
+                let next = join_if(set, known, k as u8, true);
+                set = next;
+                continue;
+            }
+            if !side.may_pass_to(later) {
                 continue;
             }
             let first = t.events[k];

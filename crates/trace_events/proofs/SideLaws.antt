@@ -2,17 +2,17 @@
 use Prim.Native.Nat.{ℕ, zero, suc}
 use mathlib.Core.Path.{_≡_, refl, sym, ap, ap₂, _∙_}
 use mathlib.Core.List.{List, [], _∷_}
-use mathlib.Core.Bool.{false, _&&_, _||_, true≢false}
+use mathlib.Core.Bool.{true, false, _&&_, _||_, or-true, true≢false}
 use native.Mathlib.Omega.{arith}
 use lib.Dec.{ltb}
 use lib.ListN.{take}
 use borrow.Author.Tests.{lt-ltb}
 use Rattle.basics.specs.Searches.{has, anyIn, shares}
-use Rattle.basics.proofs.Booleans.{and-cases, or-left, or-right}
+use Rattle.basics.proofs.Booleans.{and-cases}
 use Rattle.trace_events.specs.Types.{Operation, Tokens, Head, Event}
 use Rattle.trace_events.specs.Events.{tokensOf}
 use Rattle.trace_events.specs.Precedence.{barrierStep, tokenStep, precedes}
-use Rattle.trace_events.specs.Inner.{sideOf, sideStep, maybeBefore}
+use Rattle.trace_events.specs.Inner.{sideOf, sideStep, mayPassTo}
 
 -- the barrier step, by both sides
 pub side-step : (g h : Head) (o p : Operation) → sideStep (sideOf g o) (sideOf h p) ≡ barrierStep o p
@@ -43,10 +43,17 @@ no-token-step g h e =
     (λ f. ap (λ ss. shares ss (tokensOf (h .ins))) (no-tokens (g .outs) f) ∙ none-first (tokensOf (h .ins)))
     (λ f. ap (shares (tokensOf (g .outs))) (no-tokens (h .ins) f) ∙ none-shared (tokensOf (g .outs)))
 
--- where one may not directly precede the other, it does not
-pub never-before : (a b : Event) → maybeBefore (sideOf (a .head) (a .operation)) (sideOf (b .head) (b .operation)) ≡ false → precedes a b ≡ false
-unfolding precedes maybeBefore sideOf
-never-before a b e =
-    ap₂ _||_
-    (no-token-step (a .head) (b .head) (or-left _ _ e))
-    (sym (side-step (a .head) (b .head) (a .operation) (b .operation)) ∙ or-right (ltb 0 (a .head .outs .count) && ltb 0 (b .head .ins .count)) _ e)
+module _ (a b : Event) where
+  step-is : sideStep (sideOf (a .head) (a .operation)) (sideOf (b .head) (b .operation)) ≡ barrierStep (a .operation) (b .operation)
+  step-is = side-step (a .head) (b .head) (a .operation) (b .operation)
+
+  -- by a barrier step
+  pub by-barrier : sideStep (sideOf (a .head) (a .operation)) (sideOf (b .head) (b .operation)) ≡ true → precedes a b ≡ true
+  unfolding precedes
+  by-barrier e = rw (sym step-is ∙ e, or-true) refl
+
+  -- by neither step
+  pub by-neither : sideStep (sideOf (a .head) (a .operation)) (sideOf (b .head) (b .operation)) ≡ false
+      → mayPassTo (sideOf (a .head) (a .operation)) (sideOf (b .head) (b .operation)) ≡ false → precedes a b ≡ false
+  unfolding precedes mayPassTo sideOf
+  by-neither e f = ap₂ _||_ (no-token-step (a .head) (b .head) f) (sym step-is ∙ e)

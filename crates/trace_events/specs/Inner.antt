@@ -14,6 +14,6 @@ sideOf h o = record { takes = ltb 0 (h .ins .count); puts = ltb 0 (h .outs .coun
 unfoldable pub sideStep : Side → Side → Bool
 sideStep a b = eqb (a .switch) (b .switch) && a .ordered && b .ordered && (a .barrier || b .barrier)
 
--- a may directly precede b
-unfoldable pub maybeBefore : Side → Side → Bool
-maybeBefore a b = (a .puts && b .takes) || sideStep a b
+-- a token may pass from a to b
+unfoldable pub mayPassTo : Side → Side → Bool
+mayPassTo a b = a .puts && b .takes

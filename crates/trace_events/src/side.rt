@@ -5,7 +5,7 @@ use crate::barriers::switch_of;
 use crate::head::Head;
 use flow_table::Operation;
 ghost use mathlib.Core.Path.{_≡_};
-ghost use Rattle.trace_events.specs.Inner.{noSide, sideOf, sideStep, maybeBefore};
+ghost use Rattle.trace_events.specs.Inner.{noSide, sideOf, sideStep, mayPassTo};
 
 // Whether its line takes tokens in and puts tokens out; its switch, whether barriers of it order the event, and whether it is one.
 pub struct Side {
@@ -39,11 +39,11 @@ impl Side {
             & (self.barrier | other.barrier)
     }
 
-    // Where this is false, the event does not directly precede the other.
-    pub fn maybe_before(self, other: Side) -> bool
-        ensures { λ r. ⌜ r ≡ maybeBefore self other ⌝ }
+    // Where this is false, no token passes from the event to the other.
+    pub fn may_pass_to(self, other: Side) -> bool
+        ensures { λ r. ⌜ r ≡ mayPassTo self other ⌝ }
     {
-        (self.puts & other.takes) | self.barrier_step(other)
+        self.puts & other.takes
     }
 }
 

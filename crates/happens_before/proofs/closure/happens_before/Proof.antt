@@ -9,10 +9,10 @@ use Rattle.trace_events.specs.Events.{eventsOf}
 use Rattle.basics.specs.Searches.{anyBelow}
 use Rattle.trace_events.proofs.TraceLaws.{length-events}
 use Rattle.basics.proofs.Arrays.{length-mapped}
-use Rattle.basics.proofs.Booleans.{was-false}
+use Rattle.basics.proofs.Booleans.{was, was-false}
 use Rattle.happens_before.specs.Inner.{member}
 use Rattle.happens_before.proofs.RowLaws.{Filled, step-at, joined, filled-at, filled-none, filled-more, filled-all}
-use Rattle.happens_before.proofs.SideNotes.{Noted, noted-more, no-step, passed-by}
+use Rattle.happens_before.proofs.SideNotes.{Noted, noted-more, a-step, no-step, passed-by}
 use Rattle.happens_before.proofs.Chains.{row-union}
 use Rattle.happens_before.specs.Causality.{through}
 use Rattle.happens_before.proofs.SetLaws.{member-none}
@@ -40,26 +40,42 @@ loop2-holds c = (omega arith, λ i. member-none i)
 
 loop2-again : tie.Need-loop2-again Inv-loop2 μ-loop2 Inv-loop μ-loop
 loop2-again c =
-    let asked = c .before in
-    let l = asked .before .before .before in
+    let stepped = c .before .before .before in
+    let l = stepped .before .before .before in
     let o = l .before .before .before .before in
     let t = o .before .before .args .t1 in
+    let k = l .loop2 .k in
     let fits : t .len ≤ length (t .events) = omega (arith, o .before .before .pre) in
-    let none = no-step t fits (o .loop .sides) (o .loop .j) (l .loop2 .k) (o .loop .inv .5) (omega arith) (omega arith) (l .before .side .ensures) (was-false (asked .maybe-before .ensures) (c .if1 .taken)) in (
+    let is = a-step t fits (o .loop .sides) (o .loop .j) k (o .loop .inv .5) (omega arith) (omega arith) (l .before .side .ensures) (was (stepped .barrier-step .ensures) (c .before .before .if1 .taken)) in (
       omega arith,
-      λ i. passed-by (eventsOf t) i _ (l .loop2 .k) (l .loop2 .inv .1 i) none,
+      λ i. joined (eventsOf t) i _ k (c .join-if .ensures i) (l .loop2 .inv .1 i) (sym is) (filled-at (eventsOf t) _ _ (o .loop .inv .3) i k (omega arith)),
     )
 
 loop2-again-2 : tie.Need-loop2-again-2 Inv-loop2 μ-loop2 Inv-loop μ-loop
 loop2-again-2 c =
+    let asked = c .before in
+    let stepped = asked .before .before in
+    let l = stepped .before .before .before in
+    let o = l .before .before .before .before in
+    let t = o .before .before .args .t1 in
+    let k = l .loop2 .k in
+    let fits : t .len ≤ length (t .events) = omega (arith, o .before .before .pre) in
+    let none = no-step t fits (o .loop .sides) (o .loop .j) k (o .loop .inv .5) (omega arith) (omega arith) (l .before .side .ensures)
+    (was (stepped .barrier-step .ensures) (asked .before .if1 .left)) (was-false (asked .may-pass-to .ensures) (c .if2 .taken)) in (
+      omega arith,
+      λ i. passed-by (eventsOf t) i _ k (l .loop2 .inv .1 i) none,
+    )
+
+loop2-again-3 : tie.Need-loop2-again-3 Inv-loop2 μ-loop2 Inv-loop μ-loop
+loop2-again-3 c =
     let asked = c .before .before .before .before .before in
-    let l = asked .before .before .before in
+    let l = asked .before .before .before .before .before in
     let o = l .before .before .before .before in
     let t = o .before .before .args .t1 in
     let k = l .loop2 .k in
     let fits : t .len ≤ length (t .events) = omega (arith, o .before .before .pre) in (
       omega arith,
-      λ i. joined (eventsOf t) i _ k (c .join-if .ensures i) (l .loop2 .inv .1 i)
+      λ i. joined (eventsOf t) i _ k (c .join-if2 .ensures i) (l .loop2 .inv .1 i)
           (c .before .precedes .ensures ∙ sym (step-at t fits k _ (omega arith) (omega arith)))
           (filled-at (eventsOf t) _ _ (o .loop .inv .3) i k (omega arith)),
     )
@@ -96,8 +112,9 @@ happens-before-spec =
     Inv-loop
     μ-loop (λ c κs. search needs)
     loop-holds (λ c. omega arith) (λ c. omega arith) (λ c κs. search needs)
-    loop2-holds (λ c. omega arith) (λ c. omega arith) (λ c κs. search needs) (λ c. omega arith) (λ c. omega arith)
-    loop2-again (λ c. omega arith) (λ c. omega arith) (λ c. omega arith) (λ c. omega arith) (λ c κs. search needs) (λ c. omega arith) (λ c κs. search needs) (λ c. omega arith) (λ c. omega arith)
-    loop2-again-2 (λ c. omega arith) (λ c. omega arith) (λ c. omega arith) (λ c. omega arith) (λ c. omega arith) (λ c. omega arith)
+    loop2-holds (λ c. omega arith) (λ c. omega arith) (λ c κs. search needs) (λ c. omega arith) (λ c. omega arith) (λ c. omega arith) (λ c κs. search needs) (λ c. omega arith) (λ c. omega arith)
+    loop2-again (λ c κs. search needs) (λ c. omega arith) (λ c. omega arith)
+    loop2-again-2 (λ c. omega arith) (λ c. omega arith) (λ c. omega arith) (λ c. omega arith) (λ c κs. search needs) (λ c. omega arith) (λ c κs. search needs) (λ c. omega arith) (λ c. omega arith)
+    loop2-again-3 (λ c. omega arith) (λ c. omega arith) (λ c. omega arith) (λ c. omega arith) (λ c. omega arith) (λ c. omega arith)
     loop-again
     returns)

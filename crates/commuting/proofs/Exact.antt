@@ -14,10 +14,10 @@ use Rattle.basics.proofs.Booleans.{split, and-intro, and-cases, or-left, or-rig
 use Rattle.flow.proofs.Field.{within-self, meet-left, meet-right, overlap-sym, within-overlap}
 use Rattle.flow.proofs.Matches.{match-field}
 use Rattle.flow.proofs.Entries.{same-eq, same-self, same-sym, differ-of, action-self}
-use Rattle.flow_table.specs.FlowTable.{Table, entry, get, insert, removeIf, assignIf, anyOf, fitting, best, Effect, pkt, add, addc, modn, dels, deln, idle, after, answer, inside, clash, admits}
+use Rattle.flow_table.specs.FlowTable.{Table, entry, get, insert, removeIf, assignIf, anyOf, fitting, best, after, answer, inside, clash, admits}
 use Rattle.flow_table.proofs.TableLaws.{get-insert, get-assign, any-assign, none-some}
 use Rattle.flow_table.proofs.Effects.{addc-yes, modn-yes, modn-no}
-use Rattle.commuting.specs.Types.{Match, Packet, Action, Key, Entry, Answer}
+use Rattle.commuting.specs.Types.{Match, Packet, Action, Key, Entry, Answer, Effect}
 use Rattle.commuting.specs.Commuting.{Agree, add-add, add-dels, add-deln, add-modn, addc-other, addc-modn, modn-dels, modn-modn, commutes, at}
 use Rattle.commuting.specs.Inner.{one, witness}
 use Rattle.commuting.proofs.Sound.{inside-self, clash-self, agree-sym, clashes}
@@ -38,14 +38,14 @@ unfolding best
 best-one e = let q : eqb (e .key .priority) (max (e .key .priority) 0) ≡ true = eq-eqb (e .key .priority) (max (e .key .priority) 0) (omega arith) in rw q refl
 
 -- a packet that fits the only entry meets it
-pkt-one : (p : Packet) (e : Entry) → admits p (e .key) ≡ true → answer (pkt p) (e ∷ []) ≡ answer (pkt p) [] → ⊥
+pkt-one : (p : Packet) (e : Entry) → admits p (e .key) ≡ true → answer (Effect.Pkt p) (e ∷ []) ≡ answer (Effect.Pkt p) [] → ⊥
 unfolding answer best
 pkt-one p e h g =
     let f : best (fitting p (e ∷ [])) ≡ best (e ∷ []) = rw h refl in
     Hit-Miss (sym (best-one e) ∙ sym f ∙ g)
 
 -- a checked add meets an entry that clashes
-addc-one : (j : Key) (a : Action) (e : Entry) → clash j (e .key) ≡ true → answer (addc j a) (e ∷ []) ≡ answer (addc j a) [] → ⊥
+addc-one : (j : Key) (a : Action) (e : Entry) → clash j (e .key) ≡ true → answer (Effect.Addc j a) (e ∷ []) ≡ answer (Effect.Addc j a) [] → ⊥
 unfolding answer
 addc-one j a e h g = yes-no (sym g ∙ rw h refl)
 
@@ -67,7 +67,7 @@ gone : (p : Key → Bool) (k : Key) (a : Action) → p k ≡ true → removeIf p
 gone p k a h = rw h refl
 
 module _ (j : Key) (a : Action) (k : Key) (b : Action) where
-  add-add-tell : add-add j a k b ≡ false → Agree (add j a) (add k b) [] → ⊥
+  add-add-tell : add-add j a k b ≡ false → Agree (Effect.Add j a) (Effect.Add k b) [] → ⊥
   unfolding after
   add-add-tell h g =
       let e = same-eq j k (not-false (sameKey j k) (or-left (not (sameKey j k)) (sameAction a b) h)) in
@@ -82,7 +82,7 @@ module _ (j : Key) (a : Action) (k : Key) (b : Action) where
       let r : get k (insert j a (insert k b [])) ≡ some b = get-there k j a (insert k b []) n ∙ get-here k b [] in
       tell k e l r none-some
 
-  add-modn-tell : add-modn j a k b ≡ false → Agree (add j a) (modn k b) [] → ⊥
+  add-modn-tell : add-modn j a k b ≡ false → Agree (Effect.Add j a) (Effect.Modn k b) [] → ⊥
   unfolding after
   add-modn-tell h g =
       let w = not-false (inside (k .pattern) j) (or-left (not (inside (k .pattern) j)) (sameKey j k && sameAction a b) h) in
@@ -92,7 +92,7 @@ module _ (j : Key) (a : Action) (k : Key) (b : Action) where
       (λ d. two-tell d e)
       (λ d. tell j e l (get-here j a (insert k b [])) (λ q. some-differ a b d (sym q)))
 
-  addc-modn-tell : addc-modn j k ≡ false → Agree (addc j a) (modn k b) [] → ⊥
+  addc-modn-tell : addc-modn j k ≡ false → Agree (Effect.Addc j a) (Effect.Modn k b) [] → ⊥
   unfolding after
   addc-modn-tell h g = split (clash j k) (λ c. addc-one j a (entry k b) c (g .first)) calm
     where
@@ -103,9 +103,9 @@ module _ (j : Key) (a : Action) (k : Key) (b : Action) where
           two-tell d (sym (modn-yes k b (insert j a []) (rw w refl)) ∙ g .tables ∙ addc-yes j a (insert k b []) (rw c refl))
 
   -- the later of two modifies finds the entry of the earlier
-  found-tell : inside (k .pattern) j ≡ true → sameKey k j ≡ false → after (modn k b) (insert j a []) ≡ after (modn j a) (insert k b []) → ⊥
+  found-tell : inside (k .pattern) j ≡ true → sameKey k j ≡ false → after (Effect.Modn k b) (insert j a []) ≡ after (Effect.Modn j a) (insert k b []) → ⊥
   found-tell w n e =
-      let l : get k (after (modn k b) (insert j a [])) ≡ none
+      let l : get k (after (Effect.Modn k b) (insert j a [])) ≡ none
       = ap (get k) (modn-yes k b (insert j a []) (rw w refl)) ∙ get-assign k (inside (k .pattern)) b (insert j a []) ∙ rw (inside-self k, get-there k j a [] n) refl in
       split (anyOf (inside (j .pattern)) (insert k b []))
       (λ u. tell k e l (ap (get k) (modn-yes j a (insert k b []) u) ∙ get-assign k (inside (j .pattern)) a (insert k b [])
@@ -116,12 +116,12 @@ module _ (j : Key) (a : Action) (k : Key) (b : Action) where
       or-true true u = refl
       or-true false u = u
 
-  modn-modn-tell : modn-modn j a k b ≡ false → Agree (modn j a) (modn k b) (cond (sameAction a b) [] (one (at (0) (meet (j .pattern) (k .pattern))))) → ⊥
+  modn-modn-tell : modn-modn j a k b ≡ false → Agree (Effect.Modn j a) (Effect.Modn k b) (cond (sameAction a b) [] (one (at (0) (meet (j .pattern) (k .pattern))))) → ⊥
   unfolding after
   modn-modn-tell h g = split (sameAction a b) (λ c. equal (rw c at h) (rw c at g)) (λ c. unequal c (rw c at g))
     where
       equal : (not (overlaps (j .pattern) (k .pattern)) || ((not (inside (k .pattern) j) && not (inside (j .pattern) k)) || (sameKey j k && true))) ≡ false
-          → Agree (modn j a) (modn k b) [] → ⊥
+          → Agree (Effect.Modn j a) (Effect.Modn k b) [] → ⊥
       equal e f =
           let r = or-right (not (overlaps (j .pattern) (k .pattern))) ((not (inside (k .pattern) j) && not (inside (j .pattern) k)) || (sameKey j k && true)) e in
           let n = sym (and-true (sameKey j k)) ∙ or-right (not (inside (k .pattern) j) && not (inside (j .pattern) k)) (sameKey j k && true) r in
@@ -133,127 +133,127 @@ module _ (j : Key) (a : Action) (k : Key) (b : Action) where
       o = not-false (overlaps (j .pattern) (k .pattern)) (or-left (not (overlaps (j .pattern) (k .pattern)))
           ((sameAction a b && (not (inside (k .pattern) j) && not (inside (j .pattern) k))) || (sameKey j k && sameAction a b)) h)
 
-      unequal : sameAction a b ≡ false → Agree (modn j a) (modn k b) (one (at (0) (meet (j .pattern) (k .pattern)))) → ⊥
+      unequal : sameAction a b ≡ false → Agree (Effect.Modn j a) (Effect.Modn k b) (one (at (0) (meet (j .pattern) (k .pattern)))) → ⊥
       unequal c f =
           let q : Key = at (0) (meet (j .pattern) (k .pattern)) in
           let u : inside (j .pattern) q ≡ true = meet-left match-field (j .pattern) (k .pattern) o in
           let v : inside (k .pattern) q ≡ true = meet-right match-field (j .pattern) (k .pattern) o in
-          let l : after (modn k b) (after (modn j a) (one q)) ≡ assignIf (inside (k .pattern)) b (assignIf (inside (j .pattern)) a (one q))
-          = ap (after (modn k b)) (modn-yes j a (one q) (rw u refl)) ∙ modn-yes k b (assignIf (inside (j .pattern)) a (one q)) (any-assign (inside (k .pattern)) (inside (j .pattern)) a (one q) ∙ rw v refl) in
-          let r : after (modn j a) (after (modn k b) (one q)) ≡ assignIf (inside (j .pattern)) a (assignIf (inside (k .pattern)) b (one q))
-          = ap (after (modn j a)) (modn-yes k b (one q) (rw v refl)) ∙ modn-yes j a (assignIf (inside (k .pattern)) b (one q)) (any-assign (inside (j .pattern)) (inside (k .pattern)) b (one q) ∙ rw u refl) in
+          let l : after (Effect.Modn k b) (after (Effect.Modn j a) (one q)) ≡ assignIf (inside (k .pattern)) b (assignIf (inside (j .pattern)) a (one q))
+          = ap (after (Effect.Modn k b)) (modn-yes j a (one q) (rw u refl)) ∙ modn-yes k b (assignIf (inside (j .pattern)) a (one q)) (any-assign (inside (k .pattern)) (inside (j .pattern)) a (one q) ∙ rw v refl) in
+          let r : after (Effect.Modn j a) (after (Effect.Modn k b) (one q)) ≡ assignIf (inside (j .pattern)) a (assignIf (inside (k .pattern)) b (one q))
+          = ap (after (Effect.Modn j a)) (modn-yes k b (one q) (rw v refl)) ∙ modn-yes j a (assignIf (inside (k .pattern)) b (one q)) (any-assign (inside (j .pattern)) (inside (k .pattern)) b (one q) ∙ rw u refl) in
           let x : get q (assignIf (inside (k .pattern)) b (assignIf (inside (j .pattern)) a (one q))) ≡ some b = rw (v, same-self q) refl in
           let y : get q (assignIf (inside (j .pattern)) a (assignIf (inside (k .pattern)) b (one q))) ≡ some a = rw (u, same-self q) refl in
           tell q (sym l ∙ f .tables ∙ r) x y (λ e. some-differ a b c (sym e))
 
 module _ (j : Key) (a : Action) where
-  add-dels-tell : (k : Key) → add-dels j k ≡ false → Agree (add j a) (dels k) [] → ⊥
+  add-dels-tell : (k : Key) → add-dels j k ≡ false → Agree (Effect.Add j a) (Effect.Dels k) [] → ⊥
   unfolding after
   add-dels-tell k h g = tell j (sym (gone (sameKey k) j a (sym (same-sym j k) ∙ not-false (sameKey j k) h)) ∙ g .tables) refl (get-here j a []) none-some
 
-  add-deln-tell : (m : Match) → add-deln j m ≡ false → Agree (add j a) (deln m) [] → ⊥
+  add-deln-tell : (m : Match) → add-deln j m ≡ false → Agree (Effect.Add j a) (Effect.Deln m) [] → ⊥
   unfolding after
   add-deln-tell m h g = tell j (sym (gone (inside m) j a (not-false (inside m j) h)) ∙ g .tables) refl (get-here j a []) none-some
 
-  addc-dels-tell : (k : Key) → clash j k ≡ true → Agree (addc j a) (dels k) (one k) → ⊥
+  addc-dels-tell : (k : Key) → clash j k ≡ true → Agree (Effect.Addc j a) (Effect.Dels k) (one k) → ⊥
   unfolding after
-  addc-dels-tell k h g = addc-one j a (entry k Action.Drop) h (sym (g .first) ∙ ap (answer (addc j a)) (gone (sameKey k) k Action.Drop (same-self k)))
+  addc-dels-tell k h g = addc-one j a (entry k Action.Drop) h (sym (g .first) ∙ ap (answer (Effect.Addc j a)) (gone (sameKey k) k Action.Drop (same-self k)))
 
-  addc-deln-tell : (m : Match) → overlaps (j .pattern) m ≡ true → Agree (addc j a) (deln m) (one (at (j .priority) (meet (j .pattern) m))) → ⊥
+  addc-deln-tell : (m : Match) → overlaps (j .pattern) m ≡ true → Agree (Effect.Addc j a) (Effect.Deln m) (one (at (j .priority) (meet (j .pattern) m))) → ⊥
   unfolding after
   addc-deln-tell m h g =
       let q : Key = at (j .priority) (meet (j .pattern) m) in
       let c : clash j q ≡ true = and-intro (eq-eqb (j .priority) (j .priority) refl) (overlap-sym match-field (q .pattern) (j .pattern) (within-overlap match-field (q .pattern) (j .pattern) (meet-left match-field (j .pattern) m h))) in
-      addc-one j a (entry q Action.Drop) c (sym (g .first) ∙ ap (answer (addc j a)) (gone (inside m) q Action.Drop (meet-right match-field (j .pattern) m h)))
+      addc-one j a (entry q Action.Drop) c (sym (g .first) ∙ ap (answer (Effect.Addc j a)) (gone (inside m) q Action.Drop (meet-right match-field (j .pattern) m h)))
 
   -- a modn beside a removal of the only entry within it
-  modn-gone-tell : (p : Key → Bool) (q : Key) → inside (j .pattern) q ≡ true → p q ≡ true → removeIf p (after (modn j a) (one q)) ≡ after (modn j a) (removeIf p (one q)) → ⊥
+  modn-gone-tell : (p : Key → Bool) (q : Key) → inside (j .pattern) q ≡ true → p q ≡ true → removeIf p (after (Effect.Modn j a) (one q)) ≡ after (Effect.Modn j a) (removeIf p (one q)) → ⊥
   modn-gone-tell p q u v e =
-      let l : removeIf p (after (modn j a) (one q)) ≡ [] = ap (removeIf p) (modn-yes j a (one q) (rw u refl)) ∙ rw v refl in
-      let r : after (modn j a) (removeIf p (one q)) ≡ insert j a [] = ap (after (modn j a)) (gone p q Action.Drop v) ∙ modn-no j a [] refl in
+      let l : removeIf p (after (Effect.Modn j a) (one q)) ≡ [] = ap (removeIf p) (modn-yes j a (one q) (rw u refl)) ∙ rw v refl in
+      let r : after (Effect.Modn j a) (removeIf p (one q)) ≡ insert j a [] = ap (after (Effect.Modn j a)) (gone p q Action.Drop v) ∙ modn-no j a [] refl in
       tell j (sym l ∙ e ∙ r) refl (get-here j a []) none-some
 
-  modn-dels-tell : (k : Key) → modn-dels j k ≡ false → Agree (modn j a) (dels k) (one k) → ⊥
+  modn-dels-tell : (k : Key) → modn-dels j k ≡ false → Agree (Effect.Modn j a) (Effect.Dels k) (one k) → ⊥
   unfolding after
   modn-dels-tell k h g = modn-gone-tell (sameKey k) k (not-false (inside (j .pattern) k) h) (same-self k) (g .tables)
 
-  modn-deln-tell : (m : Match) → overlaps (j .pattern) m ≡ true → Agree (modn j a) (deln m) (one (at (0) (meet (j .pattern) m))) → ⊥
+  modn-deln-tell : (m : Match) → overlaps (j .pattern) m ≡ true → Agree (Effect.Modn j a) (Effect.Deln m) (one (at (0) (meet (j .pattern) m))) → ⊥
   unfolding after
   modn-deln-tell m h g = modn-gone-tell (inside m) (at (0) (meet (j .pattern) m)) (meet-left match-field (j .pattern) m h) (meet-right match-field (j .pattern) m h) (g .tables)
 
 module _ (p : Packet) where
-  pkt-add-tell : (k : Key) (b : Action) → admits p k ≡ true → Agree (pkt p) (add k b) [] → ⊥
+  pkt-add-tell : (k : Key) (b : Action) → admits p k ≡ true → Agree (Effect.Pkt p) (Effect.Add k b) [] → ⊥
   unfolding after
   pkt-add-tell k b h g = pkt-one p (entry k b) h (g .first)
 
-  pkt-addc-tell : (k : Key) (b : Action) → admits p k ≡ true → Agree (pkt p) (addc k b) [] → ⊥
+  pkt-addc-tell : (k : Key) (b : Action) → admits p k ≡ true → Agree (Effect.Pkt p) (Effect.Addc k b) [] → ⊥
   unfolding after
   pkt-addc-tell k b h g = pkt-one p (entry k b) h (g .first)
 
-  pkt-modn-tell : (k : Key) (b : Action) → admits p k ≡ true → Agree (pkt p) (modn k b) [] → ⊥
+  pkt-modn-tell : (k : Key) (b : Action) → admits p k ≡ true → Agree (Effect.Pkt p) (Effect.Modn k b) [] → ⊥
   unfolding after
   pkt-modn-tell k b h g = pkt-one p (entry k b) h (g .first)
 
-  pkt-dels-tell : (k : Key) → admits p k ≡ true → Agree (pkt p) (dels k) (one k) → ⊥
+  pkt-dels-tell : (k : Key) → admits p k ≡ true → Agree (Effect.Pkt p) (Effect.Dels k) (one k) → ⊥
   unfolding after
-  pkt-dels-tell k h g = pkt-one p (entry k Action.Drop) h (sym (g .first) ∙ ap (answer (pkt p)) (gone (sameKey k) k Action.Drop (same-self k)))
+  pkt-dels-tell k h g = pkt-one p (entry k Action.Drop) h (sym (g .first) ∙ ap (answer (Effect.Pkt p)) (gone (sameKey k) k Action.Drop (same-self k)))
 
-  pkt-deln-tell : (m : Match) → fits m p ≡ true → Agree (pkt p) (deln m) (one (at (0) (m))) → ⊥
+  pkt-deln-tell : (m : Match) → fits m p ≡ true → Agree (Effect.Pkt p) (Effect.Deln m) (one (at (0) (m))) → ⊥
   unfolding after
   pkt-deln-tell m h g = pkt-one p (entry (at (0) (m)) Action.Drop) h
-      (sym (g .first) ∙ ap (answer (pkt p)) (gone (inside m) (at (0) (m)) Action.Drop (within-self match-field m)))
+      (sym (g .first) ∙ ap (answer (Effect.Pkt p)) (gone (inside m) (at (0) (m)) Action.Drop (within-self match-field m)))
 
-addc-add-tell : (j : Key) (a : Action) (k : Key) (b : Action) → clash j k ≡ true → Agree (addc j a) (add k b) [] → ⊥
+addc-add-tell : (j : Key) (a : Action) (k : Key) (b : Action) → clash j k ≡ true → Agree (Effect.Addc j a) (Effect.Add k b) [] → ⊥
 unfolding after
 addc-add-tell j a k b h g = addc-one j a (entry k b) h (g .first)
 
-addc-addc-tell : (j : Key) (a : Action) (k : Key) (b : Action) → clash j k ≡ true → Agree (addc j a) (addc k b) [] → ⊥
+addc-addc-tell : (j : Key) (a : Action) (k : Key) (b : Action) → clash j k ≡ true → Agree (Effect.Addc j a) (Effect.Addc k b) [] → ⊥
 unfolding after
 addc-addc-tell j a k b h g = addc-one j a (entry k b) h (g .first)
 
 -- where the test says no, the witness tells the two orders apart
 pub commutes-exact : (v w : Effect) → commutes v w ≡ false → Agree v w (witness v w) → ⊥
 unfolding commutes witness
-commutes-exact idle w h g = true≢false h
-commutes-exact (pkt p) idle h g = true≢false h
-commutes-exact (pkt p) (pkt q) h g = true≢false h
-commutes-exact (pkt p) (add k b) h g = pkt-add-tell p k b (not-false (admits p k) h) g
-commutes-exact (pkt p) (addc k b) h g = pkt-addc-tell p k b (not-false (admits p k) h) g
-commutes-exact (pkt p) (modn k b) h g = pkt-modn-tell p k b (not-false (admits p k) h) g
-commutes-exact (pkt p) (dels k) h g = pkt-dels-tell p k (not-false (admits p k) h) g
-commutes-exact (pkt p) (deln m) h g = pkt-deln-tell p m (not-false (fits m p) h) g
-commutes-exact (add j a) idle h g = true≢false h
-commutes-exact (add j a) (pkt p) h g = pkt-add-tell p j a (not-false (admits p j) h) (agree-sym g)
-commutes-exact (add j a) (add k b) h g = add-add-tell j a k b h g
-commutes-exact (add j a) (addc k b) h g = addc-add-tell k b j a (clashes k j h) (agree-sym g)
-commutes-exact (add j a) (modn k b) h g = add-modn-tell j a k b h g
-commutes-exact (add j a) (dels k) h g = add-dels-tell j a k h g
-commutes-exact (add j a) (deln m) h g = add-deln-tell j a m h g
-commutes-exact (addc j a) idle h g = true≢false h
-commutes-exact (addc j a) (pkt p) h g = pkt-addc-tell p j a (not-false (admits p j) h) (agree-sym g)
-commutes-exact (addc j a) (add k b) h g = addc-add-tell j a k b (clashes j k h) g
-commutes-exact (addc j a) (addc k b) h g = addc-addc-tell j a k b (clashes j k h) g
-commutes-exact (addc j a) (modn k b) h g = addc-modn-tell j a k b h g
-commutes-exact (addc j a) (dels k) h g = addc-dels-tell j a k (clashes j k h) g
-commutes-exact (addc j a) (deln m) h g = addc-deln-tell j a m (not-false (overlaps (j .pattern) m) h) g
-commutes-exact (modn j a) idle h g = true≢false h
-commutes-exact (modn j a) (pkt p) h g = pkt-modn-tell p j a (not-false (admits p j) h) (agree-sym g)
-commutes-exact (modn j a) (add k b) h g = add-modn-tell k b j a h (agree-sym g)
-commutes-exact (modn j a) (addc k b) h g = addc-modn-tell k b j a h (agree-sym g)
-commutes-exact (modn j a) (modn k b) h g = modn-modn-tell j a k b h g
-commutes-exact (modn j a) (dels k) h g = modn-dels-tell j a k h g
-commutes-exact (modn j a) (deln m) h g = modn-deln-tell j a m (not-false (overlaps (j .pattern) m) h) g
-commutes-exact (dels j) idle h g = true≢false h
-commutes-exact (dels j) (pkt p) h g = pkt-dels-tell p j (not-false (admits p j) h) (agree-sym g)
-commutes-exact (dels j) (add k b) h g = add-dels-tell k b j h (agree-sym g)
-commutes-exact (dels j) (addc k b) h g = addc-dels-tell k b j (clashes k j h) (agree-sym g)
-commutes-exact (dels j) (modn k b) h g = modn-dels-tell k b j h (agree-sym g)
-commutes-exact (dels j) (dels k) h g = true≢false h
-commutes-exact (dels j) (deln m) h g = true≢false h
-commutes-exact (deln m) idle h g = true≢false h
-commutes-exact (deln m) (pkt p) h g = pkt-deln-tell p m (not-false (fits m p) h) (agree-sym g)
-commutes-exact (deln m) (add k b) h g = add-deln-tell k b m h (agree-sym g)
-commutes-exact (deln m) (addc k b) h g = addc-deln-tell k b m (not-false (overlaps (k .pattern) m) h) (agree-sym g)
-commutes-exact (deln m) (modn k b) h g = modn-deln-tell k b m (not-false (overlaps (k .pattern) m) h) (agree-sym g)
-commutes-exact (deln m) (dels k) h g = true≢false h
-commutes-exact (deln m) (deln n) h g = true≢false h
+commutes-exact Effect.Idle w h g = true≢false h
+commutes-exact (Effect.Pkt p) Effect.Idle h g = true≢false h
+commutes-exact (Effect.Pkt p) (Effect.Pkt q) h g = true≢false h
+commutes-exact (Effect.Pkt p) (Effect.Add k b) h g = pkt-add-tell p k b (not-false (admits p k) h) g
+commutes-exact (Effect.Pkt p) (Effect.Addc k b) h g = pkt-addc-tell p k b (not-false (admits p k) h) g
+commutes-exact (Effect.Pkt p) (Effect.Modn k b) h g = pkt-modn-tell p k b (not-false (admits p k) h) g
+commutes-exact (Effect.Pkt p) (Effect.Dels k) h g = pkt-dels-tell p k (not-false (admits p k) h) g
+commutes-exact (Effect.Pkt p) (Effect.Deln m) h g = pkt-deln-tell p m (not-false (fits m p) h) g
+commutes-exact (Effect.Add j a) Effect.Idle h g = true≢false h
+commutes-exact (Effect.Add j a) (Effect.Pkt p) h g = pkt-add-tell p j a (not-false (admits p j) h) (agree-sym g)
+commutes-exact (Effect.Add j a) (Effect.Add k b) h g = add-add-tell j a k b h g
+commutes-exact (Effect.Add j a) (Effect.Addc k b) h g = addc-add-tell k b j a (clashes k j h) (agree-sym g)
+commutes-exact (Effect.Add j a) (Effect.Modn k b) h g = add-modn-tell j a k b h g
+commutes-exact (Effect.Add j a) (Effect.Dels k) h g = add-dels-tell j a k h g
+commutes-exact (Effect.Add j a) (Effect.Deln m) h g = add-deln-tell j a m h g
+commutes-exact (Effect.Addc j a) Effect.Idle h g = true≢false h
+commutes-exact (Effect.Addc j a) (Effect.Pkt p) h g = pkt-addc-tell p j a (not-false (admits p j) h) (agree-sym g)
+commutes-exact (Effect.Addc j a) (Effect.Add k b) h g = addc-add-tell j a k b (clashes j k h) g
+commutes-exact (Effect.Addc j a) (Effect.Addc k b) h g = addc-addc-tell j a k b (clashes j k h) g
+commutes-exact (Effect.Addc j a) (Effect.Modn k b) h g = addc-modn-tell j a k b h g
+commutes-exact (Effect.Addc j a) (Effect.Dels k) h g = addc-dels-tell j a k (clashes j k h) g
+commutes-exact (Effect.Addc j a) (Effect.Deln m) h g = addc-deln-tell j a m (not-false (overlaps (j .pattern) m) h) g
+commutes-exact (Effect.Modn j a) Effect.Idle h g = true≢false h
+commutes-exact (Effect.Modn j a) (Effect.Pkt p) h g = pkt-modn-tell p j a (not-false (admits p j) h) (agree-sym g)
+commutes-exact (Effect.Modn j a) (Effect.Add k b) h g = add-modn-tell k b j a h (agree-sym g)
+commutes-exact (Effect.Modn j a) (Effect.Addc k b) h g = addc-modn-tell k b j a h (agree-sym g)
+commutes-exact (Effect.Modn j a) (Effect.Modn k b) h g = modn-modn-tell j a k b h g
+commutes-exact (Effect.Modn j a) (Effect.Dels k) h g = modn-dels-tell j a k h g
+commutes-exact (Effect.Modn j a) (Effect.Deln m) h g = modn-deln-tell j a m (not-false (overlaps (j .pattern) m) h) g
+commutes-exact (Effect.Dels j) Effect.Idle h g = true≢false h
+commutes-exact (Effect.Dels j) (Effect.Pkt p) h g = pkt-dels-tell p j (not-false (admits p j) h) (agree-sym g)
+commutes-exact (Effect.Dels j) (Effect.Add k b) h g = add-dels-tell k b j h (agree-sym g)
+commutes-exact (Effect.Dels j) (Effect.Addc k b) h g = addc-dels-tell k b j (clashes k j h) (agree-sym g)
+commutes-exact (Effect.Dels j) (Effect.Modn k b) h g = modn-dels-tell k b j h (agree-sym g)
+commutes-exact (Effect.Dels j) (Effect.Dels k) h g = true≢false h
+commutes-exact (Effect.Dels j) (Effect.Deln m) h g = true≢false h
+commutes-exact (Effect.Deln m) Effect.Idle h g = true≢false h
+commutes-exact (Effect.Deln m) (Effect.Pkt p) h g = pkt-deln-tell p m (not-false (fits m p) h) (agree-sym g)
+commutes-exact (Effect.Deln m) (Effect.Add k b) h g = add-deln-tell k b m h (agree-sym g)
+commutes-exact (Effect.Deln m) (Effect.Addc k b) h g = addc-deln-tell k b m (not-false (overlaps (k .pattern) m) h) (agree-sym g)
+commutes-exact (Effect.Deln m) (Effect.Modn k b) h g = modn-deln-tell k b m (not-false (overlaps (k .pattern) m) h) (agree-sym g)
+commutes-exact (Effect.Deln m) (Effect.Dels k) h g = true≢false h
+commutes-exact (Effect.Deln m) (Effect.Deln n) h g = true≢false h

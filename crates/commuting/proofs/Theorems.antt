@@ -12,8 +12,8 @@ use Rattle.flow.specs.Inner.{meet}
 use Rattle.flow.specs.Entries.{sameAction, KeyInRange}
 use Rattle.basics.proofs.Booleans.{split, both-ways}
 use Rattle.flow.proofs.Matches.{match-field}
-use Rattle.flow_table.specs.FlowTable.{Table, Sorted, TableInRange, Effect, pkt, add, addc, modn, dels, deln, idle, effectOf, tableEffect, EffectInRange}
-use Rattle.commuting.specs.Types.{Match, Key, Entry, Operation, TableOperation}
+use Rattle.flow_table.specs.FlowTable.{Table, Sorted, TableInRange, effectOf, EffectInRange}
+use Rattle.commuting.specs.Types.{Match, Key, Operation, Effect}
 use Rattle.commuting.specs.Commuting.{Commute, commutes, at, Told}
 use Rattle.commuting.specs.Inner.{one, witness}
 use Rattle.commuting.proofs.Sound.{commutes-sound, agree-sym}
@@ -39,49 +39,49 @@ meet-in-range m n h k = match-field .meet-ok m n h k
 
 witness-small : (v w : Effect) → Small (EffectInRange v × EffectInRange w) (witness v w)
 unfolding witness
-witness-small idle w = none-small
-witness-small (pkt p) idle = none-small
-witness-small (pkt p) (pkt q) = none-small
-witness-small (pkt p) (add j b) = none-small
-witness-small (pkt p) (addc j b) = none-small
-witness-small (pkt p) (modn j b) = none-small
-witness-small (pkt p) (dels j) = one-small j (λ r. r .1)
-witness-small (pkt p) (deln m) = one-small (at 0 m) (λ r. at-zero m (r .1))
-witness-small (add i a) w = none-small
-witness-small (addc i a) idle = none-small
-witness-small (addc i a) (pkt p) = none-small
-witness-small (addc i a) (add j b) = none-small
-witness-small (addc i a) (addc j b) = none-small
-witness-small (addc i a) (modn j b) = none-small
-witness-small (addc i a) (dels j) = one-small j (λ r. r .1)
-witness-small (addc i a) (deln m) =
+witness-small Effect.Idle w = none-small
+witness-small (Effect.Pkt p) Effect.Idle = none-small
+witness-small (Effect.Pkt p) (Effect.Pkt q) = none-small
+witness-small (Effect.Pkt p) (Effect.Add j b) = none-small
+witness-small (Effect.Pkt p) (Effect.Addc j b) = none-small
+witness-small (Effect.Pkt p) (Effect.Modn j b) = none-small
+witness-small (Effect.Pkt p) (Effect.Dels j) = one-small j (λ r. r .1)
+witness-small (Effect.Pkt p) (Effect.Deln m) = one-small (at 0 m) (λ r. at-zero m (r .1))
+witness-small (Effect.Add i a) w = none-small
+witness-small (Effect.Addc i a) Effect.Idle = none-small
+witness-small (Effect.Addc i a) (Effect.Pkt p) = none-small
+witness-small (Effect.Addc i a) (Effect.Add j b) = none-small
+witness-small (Effect.Addc i a) (Effect.Addc j b) = none-small
+witness-small (Effect.Addc i a) (Effect.Modn j b) = none-small
+witness-small (Effect.Addc i a) (Effect.Dels j) = one-small j (λ r. r .1)
+witness-small (Effect.Addc i a) (Effect.Deln m) =
     one-small (at (i .priority) (meet (i .pattern) m)) (λ r. record { priority = r .0 .0 .priority; pattern = meet-in-range (i .pattern) m (r .0 .0 .pattern) (r .1) })
-witness-small (modn i a) idle = none-small
-witness-small (modn i a) (pkt p) = none-small
-witness-small (modn i a) (add j b) = none-small
-witness-small (modn i a) (addc j b) = none-small
-witness-small (modn i a) (modn j b) = go (sameAction a b)
+witness-small (Effect.Modn i a) Effect.Idle = none-small
+witness-small (Effect.Modn i a) (Effect.Pkt p) = none-small
+witness-small (Effect.Modn i a) (Effect.Add j b) = none-small
+witness-small (Effect.Modn i a) (Effect.Addc j b) = none-small
+witness-small (Effect.Modn i a) (Effect.Modn j b) = go (sameAction a b)
   where
-    go : (c : Bool) → Small (EffectInRange (modn i a) × EffectInRange (modn j b)) (cond c [] (one (at 0 (meet (i .pattern) (j .pattern)))))
+    go : (c : Bool) → Small (EffectInRange (Effect.Modn i a) × EffectInRange (Effect.Modn j b)) (cond c [] (one (at 0 (meet (i .pattern) (j .pattern)))))
     go true = none-small
     go false = one-small (at 0 (meet (i .pattern) (j .pattern))) (λ r. at-zero (meet (i .pattern) (j .pattern)) (meet-in-range (i .pattern) (j .pattern) (r .0 .0 .pattern) (r .1 .0 .pattern)))
-witness-small (modn i a) (dels j) = one-small j (λ r. r .1)
-witness-small (modn i a) (deln m) = one-small (at 0 (meet (i .pattern) m)) (λ r. at-zero (meet (i .pattern) m) (meet-in-range (i .pattern) m (r .0 .0 .pattern) (r .1)))
-witness-small (dels i) idle = none-small
-witness-small (dels i) (pkt p) = one-small i (λ r. r .0)
-witness-small (dels i) (add j b) = none-small
-witness-small (dels i) (addc j b) = one-small i (λ r. r .0)
-witness-small (dels i) (modn j b) = one-small i (λ r. r .0)
-witness-small (dels i) (dels j) = none-small
-witness-small (dels i) (deln m) = none-small
-witness-small (deln m) idle = none-small
-witness-small (deln m) (pkt p) = one-small (at 0 m) (λ r. at-zero m (r .0))
-witness-small (deln m) (add j b) = none-small
-witness-small (deln m) (addc j b) =
+witness-small (Effect.Modn i a) (Effect.Dels j) = one-small j (λ r. r .1)
+witness-small (Effect.Modn i a) (Effect.Deln m) = one-small (at 0 (meet (i .pattern) m)) (λ r. at-zero (meet (i .pattern) m) (meet-in-range (i .pattern) m (r .0 .0 .pattern) (r .1)))
+witness-small (Effect.Dels i) Effect.Idle = none-small
+witness-small (Effect.Dels i) (Effect.Pkt p) = one-small i (λ r. r .0)
+witness-small (Effect.Dels i) (Effect.Add j b) = none-small
+witness-small (Effect.Dels i) (Effect.Addc j b) = one-small i (λ r. r .0)
+witness-small (Effect.Dels i) (Effect.Modn j b) = one-small i (λ r. r .0)
+witness-small (Effect.Dels i) (Effect.Dels j) = none-small
+witness-small (Effect.Dels i) (Effect.Deln m) = none-small
+witness-small (Effect.Deln m) Effect.Idle = none-small
+witness-small (Effect.Deln m) (Effect.Pkt p) = one-small (at 0 m) (λ r. at-zero m (r .0))
+witness-small (Effect.Deln m) (Effect.Add j b) = none-small
+witness-small (Effect.Deln m) (Effect.Addc j b) =
     one-small (at (j .priority) (meet (j .pattern) m)) (λ r. record { priority = r .1 .0 .priority; pattern = meet-in-range (j .pattern) m (r .1 .0 .pattern) (r .0) })
-witness-small (deln m) (modn j b) = one-small (at 0 (meet (j .pattern) m)) (λ r. at-zero (meet (j .pattern) m) (meet-in-range (j .pattern) m (r .1 .0 .pattern) (r .0)))
-witness-small (deln m) (dels j) = none-small
-witness-small (deln m) (deln n) = none-small
+witness-small (Effect.Deln m) (Effect.Modn j b) = one-small (at 0 (meet (j .pattern) m)) (λ r. at-zero (meet (j .pattern) m) (meet-in-range (j .pattern) m (r .1 .0 .pattern) (r .0)))
+witness-small (Effect.Deln m) (Effect.Dels j) = none-small
+witness-small (Effect.Deln m) (Effect.Deln n) = none-small
 
 -- where the test says no, the witness tells the two orders apart; it is in order, in range and of at most one entry
 pub told : (v w : Effect) → EffectInRange v → EffectInRange w → commutes v w ≡ false → Told v w (witness v w)
@@ -102,7 +102,7 @@ commutes-sym v w = both-ways (commutes v w) (commutes w v) (turned v w) (turned 
     turned v w e = commutes-iff w v .1 (λ t s. agree-sym (commutes-iff v w .0 e t s))
 
 -- an event that uses no table commutes with everything
-pub idle-commutes : (w : Effect) → commutes idle w ≡ true
+pub idle-commutes : (w : Effect) → commutes Effect.Idle w ≡ true
 unfolding commutes
 idle-commutes w = refl
 
@@ -115,7 +115,3 @@ barrier-commutes s w = idle-commutes w
 
 pub message-commutes : (s : ℕ) (w : Effect) → commutes (effectOf (Operation.Message s)) w ≡ true
 message-commutes s w = idle-commutes w
-
--- `mods` reads as `add`
-pub mods-is-add : (e : Entry) → tableEffect (TableOperation.ModifyStrict e) ≡ tableEffect (TableOperation.Add e)
-mods-is-add e = refl

@@ -7,8 +7,8 @@ use lib.Dec.{eqb}
 use lib.ListN.{length}
 use Rattle.flow.specs.Matches.{fits, overlaps, within}
 use Rattle.flow.specs.Entries.{sameKey, sameAction}
-use Rattle.flow_table.specs.FlowTable.{Table, Sorted, TableInRange, Effect, pkt, add, addc, modn, dels, deln, idle, after, answer}
-use Rattle.commuting.specs.Types.{Match, Packet, Action, Key}
+use Rattle.flow_table.specs.FlowTable.{Table, Sorted, TableInRange, after, answer}
+use Rattle.commuting.specs.Types.{Match, Packet, Action, Key, Effect}
 
 -- on the table t both orders leave the same table and give each event the same answer
 pub record Agree (v w : Effect) (t : Table) : Type 0 where
@@ -66,49 +66,49 @@ modn-modn j a k b =
 
 -- which row is for which pair, both ways round; pkt with pkt and delete with delete always commute
 unfoldable pub commutes : Effect → Effect → Bool
-commutes idle w = true
-commutes (pkt p) idle = true
-commutes (pkt p) (pkt q) = true
-commutes (pkt p) (add k b) = pkt-write p (k .pattern)
-commutes (pkt p) (addc k b) = pkt-write p (k .pattern)
-commutes (pkt p) (modn k b) = pkt-write p (k .pattern)
-commutes (pkt p) (dels k) = pkt-write p (k .pattern)
-commutes (pkt p) (deln m) = pkt-write p m
-commutes (add j a) idle = true
-commutes (add j a) (pkt p) = pkt-write p (j .pattern)
-commutes (add j a) (add k b) = add-add j a k b
-commutes (add j a) (addc k b) = addc-other k j
-commutes (add j a) (modn k b) = add-modn j a k b
-commutes (add j a) (dels k) = add-dels j k
-commutes (add j a) (deln m) = add-deln j m
-commutes (addc j a) idle = true
-commutes (addc j a) (pkt p) = pkt-write p (j .pattern)
-commutes (addc j a) (add k b) = addc-other j k
-commutes (addc j a) (addc k b) = addc-other j k
-commutes (addc j a) (modn k b) = addc-modn j k
-commutes (addc j a) (dels k) = addc-other j k
-commutes (addc j a) (deln m) = apart-deln j m
-commutes (modn j a) idle = true
-commutes (modn j a) (pkt p) = pkt-write p (j .pattern)
-commutes (modn j a) (add k b) = add-modn k b j a
-commutes (modn j a) (addc k b) = addc-modn k j
-commutes (modn j a) (modn k b) = modn-modn j a k b
-commutes (modn j a) (dels k) = modn-dels j k
-commutes (modn j a) (deln m) = apart-deln j m
-commutes (dels j) idle = true
-commutes (dels j) (pkt p) = pkt-write p (j .pattern)
-commutes (dels j) (add k b) = add-dels k j
-commutes (dels j) (addc k b) = addc-other k j
-commutes (dels j) (modn k b) = modn-dels k j
-commutes (dels j) (dels k) = true
-commutes (dels j) (deln m) = true
-commutes (deln m) idle = true
-commutes (deln m) (pkt p) = pkt-write p m
-commutes (deln m) (add k b) = add-deln k m
-commutes (deln m) (addc k b) = apart-deln k m
-commutes (deln m) (modn k b) = apart-deln k m
-commutes (deln m) (dels k) = true
-commutes (deln m) (deln n) = true
+commutes Effect.Idle w = true
+commutes (Effect.Pkt p) Effect.Idle = true
+commutes (Effect.Pkt p) (Effect.Pkt q) = true
+commutes (Effect.Pkt p) (Effect.Add k b) = pkt-write p (k .pattern)
+commutes (Effect.Pkt p) (Effect.Addc k b) = pkt-write p (k .pattern)
+commutes (Effect.Pkt p) (Effect.Modn k b) = pkt-write p (k .pattern)
+commutes (Effect.Pkt p) (Effect.Dels k) = pkt-write p (k .pattern)
+commutes (Effect.Pkt p) (Effect.Deln m) = pkt-write p m
+commutes (Effect.Add j a) Effect.Idle = true
+commutes (Effect.Add j a) (Effect.Pkt p) = pkt-write p (j .pattern)
+commutes (Effect.Add j a) (Effect.Add k b) = add-add j a k b
+commutes (Effect.Add j a) (Effect.Addc k b) = addc-other k j
+commutes (Effect.Add j a) (Effect.Modn k b) = add-modn j a k b
+commutes (Effect.Add j a) (Effect.Dels k) = add-dels j k
+commutes (Effect.Add j a) (Effect.Deln m) = add-deln j m
+commutes (Effect.Addc j a) Effect.Idle = true
+commutes (Effect.Addc j a) (Effect.Pkt p) = pkt-write p (j .pattern)
+commutes (Effect.Addc j a) (Effect.Add k b) = addc-other j k
+commutes (Effect.Addc j a) (Effect.Addc k b) = addc-other j k
+commutes (Effect.Addc j a) (Effect.Modn k b) = addc-modn j k
+commutes (Effect.Addc j a) (Effect.Dels k) = addc-other j k
+commutes (Effect.Addc j a) (Effect.Deln m) = apart-deln j m
+commutes (Effect.Modn j a) Effect.Idle = true
+commutes (Effect.Modn j a) (Effect.Pkt p) = pkt-write p (j .pattern)
+commutes (Effect.Modn j a) (Effect.Add k b) = add-modn k b j a
+commutes (Effect.Modn j a) (Effect.Addc k b) = addc-modn k j
+commutes (Effect.Modn j a) (Effect.Modn k b) = modn-modn j a k b
+commutes (Effect.Modn j a) (Effect.Dels k) = modn-dels j k
+commutes (Effect.Modn j a) (Effect.Deln m) = apart-deln j m
+commutes (Effect.Dels j) Effect.Idle = true
+commutes (Effect.Dels j) (Effect.Pkt p) = pkt-write p (j .pattern)
+commutes (Effect.Dels j) (Effect.Add k b) = add-dels k j
+commutes (Effect.Dels j) (Effect.Addc k b) = addc-other k j
+commutes (Effect.Dels j) (Effect.Modn k b) = modn-dels k j
+commutes (Effect.Dels j) (Effect.Dels k) = true
+commutes (Effect.Dels j) (Effect.Deln m) = true
+commutes (Effect.Deln m) Effect.Idle = true
+commutes (Effect.Deln m) (Effect.Pkt p) = pkt-write p m
+commutes (Effect.Deln m) (Effect.Add k b) = add-deln k m
+commutes (Effect.Deln m) (Effect.Addc k b) = apart-deln k m
+commutes (Effect.Deln m) (Effect.Modn k b) = apart-deln k m
+commutes (Effect.Deln m) (Effect.Dels k) = true
+commutes (Effect.Deln m) (Effect.Deln n) = true
 
 abbrev pub at : ℕ → Match → Key
 at n m = record { priority = n; pattern = m }

@@ -2,8 +2,7 @@
 use mathlib.Core.Bool.{Bool}
 use mathlib.Core.List.{List, [], _∷_}
 use Prim.Native.Nat.{ℕ}
-use Rattle.flow_table.specs.FlowTable.{pkt, add, addc, modn, dels, deln}
-use Rattle.commuting.specs.Types.{Match, Packet, Action, Exact}
+use Rattle.commuting.specs.Types.{Match, Packet, Action, Exact, Effect}
 use Rattle.commuting.specs.Commuting.{at, commutes}
 
 -- A: dst 0a000000/8; B: dst 0a010000/16; D: dport 80; else any
@@ -20,18 +19,18 @@ D = record { port = Exact.Any; src = record { value = 0; length = 0 }; dst = rec
 abbrev pub markedCases : ℕ → ℕ → Action → Action → Packet → List Bool
 markedCases n m a b p =
     -- commute
-    commutes (add (at 5 A) (Action.Port 1)) (add (at 5 A) (Action.Port 1))
-    ∷ commutes (add (at 5 A) a) (addc (at 6 B) b)
-    ∷ commutes (modn (at 5 A) (Action.Port 1)) (modn (at 5 D) (Action.Port 1))
-    ∷ commutes (deln A) (dels (at 5 B))
-    ∷ commutes (deln A) (add (at 5 D) a)
-    ∷ commutes (pkt p) (add (at n A) a)
+    commutes (Effect.Add (at 5 A) (Action.Port 1)) (Effect.Add (at 5 A) (Action.Port 1))
+    ∷ commutes (Effect.Add (at 5 A) a) (Effect.Addc (at 6 B) b)
+    ∷ commutes (Effect.Modn (at 5 A) (Action.Port 1)) (Effect.Modn (at 5 D) (Action.Port 1))
+    ∷ commutes (Effect.Deln A) (Effect.Dels (at 5 B))
+    ∷ commutes (Effect.Deln A) (Effect.Add (at 5 D) a)
+    ∷ commutes (Effect.Pkt p) (Effect.Add (at n A) a)
     -- don't
-    ∷ commutes (add (at 5 A) (Action.Port 1)) (add (at 5 A) (Action.Port 2))
-    ∷ commutes (add (at 5 A) a) (addc (at 5 B) b)
-    ∷ commutes (modn (at 5 A) (Action.Port 1)) (modn (at 5 B) (Action.Port 1))
-    ∷ commutes (modn (at n A) (Action.Port 1)) (modn (at m D) (Action.Port 2))
-    ∷ commutes (deln A) (addc (at 5 D) a)
-    ∷ commutes (modn (at n A) a) (dels (at 5 B))
-    ∷ commutes (addc (at 5 A) a) (addc (at 5 A) b)
+    ∷ commutes (Effect.Add (at 5 A) (Action.Port 1)) (Effect.Add (at 5 A) (Action.Port 2))
+    ∷ commutes (Effect.Add (at 5 A) a) (Effect.Addc (at 5 B) b)
+    ∷ commutes (Effect.Modn (at 5 A) (Action.Port 1)) (Effect.Modn (at 5 B) (Action.Port 1))
+    ∷ commutes (Effect.Modn (at n A) (Action.Port 1)) (Effect.Modn (at m D) (Action.Port 2))
+    ∷ commutes (Effect.Deln A) (Effect.Addc (at 5 D) a)
+    ∷ commutes (Effect.Modn (at n A) a) (Effect.Dels (at 5 B))
+    ∷ commutes (Effect.Addc (at 5 A) a) (Effect.Addc (at 5 A) b)
     ∷ []

@@ -4,7 +4,7 @@ pub use Rattle.flow.specs.declared.matching.Packet.{Packet}
 pub use Rattle.flow.specs.declared.action.Action.{Action}
 pub use Rattle.flow.specs.declared.entry.Key.{Key}
 pub use Rattle.flow.specs.declared.entry.Entry.{Entry}
-pub use Rattle.flow_table.specs.declared.operation.TableOperation.{TableOperation}
 pub use Rattle.flow_table.specs.declared.operation.Operation.{Operation}
 pub use Rattle.flow_table.specs.declared.operation.Answer.{Answer}
+pub use Rattle.flow_table.specs.declared.effect.Effect.{Effect}
 pub use Rattle.flow.specs.declared.exact.Exact.{Exact}

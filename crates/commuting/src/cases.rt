@@ -1,5 +1,5 @@
 // Document 01's table of the pairs that commute, a row each.
-use flow::Entry;
+use flow::Action;
 use flow::Key;
 use flow::Match;
 use flow::Packet;
@@ -12,81 +12,74 @@ pub fn packet_write(p: Packet, m: Match) -> bool
     !m.fits(p)
 }
 
-pub fn add_add(d: Entry, e: Entry) -> bool
-    ensures { λ r. ⌜ r ≡ add-add (d .key) (d .action) (e .key) (e .action) ⌝ }
+pub fn add_add(j: Key, a: Action, k: Key, b: Action) -> bool
+    ensures { λ r. ⌜ r ≡ add-add j a k b ⌝ }
 {
-    let a = d.action;
-    let b = e.action;
     if a.same(b) {
         return true;
     }
-    !d.key.same(e.key)
+    !j.same(k)
 }
 
-pub fn add_delete_strict(d: Entry, k: Key) -> bool
-    ensures { λ r. ⌜ r ≡ add-dels (d .key) k ⌝ }
+pub fn add_delete_strict(j: Key, k: Key) -> bool
+    ensures { λ r. ⌜ r ≡ add-dels j k ⌝ }
 {
-    !d.key.same(k)
+    !j.same(k)
 }
 
-pub fn add_delete(d: Entry, m: Match) -> bool
-    ensures { λ r. ⌜ r ≡ add-deln (d .key) m ⌝ }
+pub fn add_delete(j: Key, m: Match) -> bool
+    ensures { λ r. ⌜ r ≡ add-deln j m ⌝ }
 {
-    !d.key.pattern.within(m)
+    !j.pattern.within(m)
 }
 
-pub fn add_modify(d: Entry, e: Entry) -> bool
-    ensures { λ r. ⌜ r ≡ add-modn (d .key) (d .action) (e .key) (e .action) ⌝ }
+pub fn add_modify(j: Key, a: Action, k: Key, b: Action) -> bool
+    ensures { λ r. ⌜ r ≡ add-modn j a k b ⌝ }
 {
-    let a = d.action;
-    let b = e.action;
-    if !d.key.pattern.within(e.key.pattern) {
+    if !j.pattern.within(k.pattern) {
         return true;
     }
     if !a.same(b) {
         return false;
     }
-    d.key.same(e.key)
+    j.same(k)
 }
 
-pub fn checked_other(d: Entry, k: Key) -> bool
-    ensures { λ r. ⌜ r ≡ addc-other (d .key) k ⌝ }
+pub fn checked_other(j: Key, k: Key) -> bool
+    ensures { λ r. ⌜ r ≡ addc-other j k ⌝ }
 {
-    let j = d.key;
     if j.priority != k.priority {
         return true;
     }
     !flow_table::clash(j, k)
 }
 
-pub fn checked_modify(d: Entry, e: Entry) -> bool
-    ensures { λ r. ⌜ r ≡ addc-modn (d .key) (e .key) ⌝ }
+pub fn checked_modify(j: Key, k: Key) -> bool
+    ensures { λ r. ⌜ r ≡ addc-modn j k ⌝ }
 {
-    if d.key.pattern.within(e.key.pattern) {
+    if j.pattern.within(k.pattern) {
         return false;
     }
-    checked_other(d, e.key)
+    checked_other(j, k)
 }
 
-pub fn apart_delete(d: Entry, m: Match) -> bool
-    ensures { λ r. ⌜ r ≡ apart-deln (d .key) m ⌝ }
+pub fn apart_delete(j: Key, m: Match) -> bool
+    ensures { λ r. ⌜ r ≡ apart-deln j m ⌝ }
 {
-    !d.key.pattern.overlaps(m)
+    !j.pattern.overlaps(m)
 }
 
-pub fn modify_delete_strict(d: Entry, k: Key) -> bool
-    ensures { λ r. ⌜ r ≡ modn-dels (d .key) k ⌝ }
+pub fn modify_delete_strict(j: Key, k: Key) -> bool
+    ensures { λ r. ⌜ r ≡ modn-dels j k ⌝ }
 {
-    !k.pattern.within(d.key.pattern)
+    !k.pattern.within(j.pattern)
 }
 
-pub fn modify_modify(d: Entry, e: Entry) -> bool
-    ensures { λ r. ⌜ r ≡ modn-modn (d .key) (d .action) (e .key) (e .action) ⌝ }
+pub fn modify_modify(j: Key, a: Action, k: Key, b: Action) -> bool
+    ensures { λ r. ⌜ r ≡ modn-modn j a k b ⌝ }
 {
-    let m = d.key.pattern;
-    let n = e.key.pattern;
-    let a = d.action;
-    let b = e.action;
+    let m = j.pattern;
+    let n = k.pattern;
     if !m.overlaps(n) {
         return true;
     }
@@ -94,5 +87,5 @@ pub fn modify_modify(d: Entry, e: Entry) -> bool
         return false;
     }
     let apart = !m.within(n) & !n.within(m);
-    apart | d.key.same(e.key)
+    apart | j.same(k)
 }

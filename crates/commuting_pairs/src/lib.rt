@@ -1,6 +1,6 @@
 // Whether two operations of one switch commute.
+pub mod effect;
 pub mod operation;
-pub mod table_operation;
 
+pub use effect::commutes;
 pub use operation::commute_both;
-pub use table_operation::commutes;

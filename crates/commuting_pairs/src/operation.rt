@@ -1,29 +1,13 @@
-// Any two operations of one switch: what uses no table commutes with all.
-use crate::table_operation::commutes;
+// Two operations of one switch.
+use crate::effect::commutes;
 use flow_table::Operation;
-use flow_table::TableOperation;
+use flow_table::effect_of;
 ghost use mathlib.Core.Path.{_≡_};
-ghost use Rattle.flow_table.specs.FlowTable.{tableEffect, effectOf};
+ghost use Rattle.flow_table.specs.FlowTable.{effectOf};
 ghost use Rattle.commuting.specs.Commuting.{commutes};
-
-fn commutes_with(o: TableOperation, b: Operation) -> bool
-    ensures { λ r. ⌜ r ≡ commutes (tableEffect o) (effectOf b) ⌝ }
-{
-    match b {
-        Operation::Other => true,
-        Operation::Barrier(_) => true,
-        Operation::Message(_) => true,
-        Operation::Table(_, p) => commutes(o, p),
-    }
-}
 
 pub fn commute_both(a: Operation, b: Operation) -> bool
     ensures { λ r. ⌜ r ≡ commutes (effectOf a) (effectOf b) ⌝ }
 {
-    match a {
-        Operation::Other => true,
-        Operation::Barrier(_) => true,
-        Operation::Message(_) => true,
-        Operation::Table(_, o) => commutes_with(o, b),
-    }
+    commutes(effect_of(a), effect_of(b))
 }

@@ -8,6 +8,7 @@ use flow::Match;
 use flow::Packet;
 use flow::Prefix;
 use flow_table::TableOperation;
+use flow_table::table_effect;
 use libc::STDOUT_FILENO;
 
 // A pair a line, a digit each: word, match, priority and port of the one, then of the other. The words from 0 on are pkt, add,
@@ -235,8 +236,8 @@ fn verdict(yes: bool) {
 fn pair(digits: u32) {
     let one = digits / 65536;
     let other = digits % 65536;
-    let v = operation(one);
-    let w = operation(other);
+    let v = table_effect(operation(one));
+    let w = table_effect(operation(other));
     say_operation(one);
     say(b", ");
     say_operation(other);

@@ -7,38 +7,38 @@ use native.Mathlib.Omega.{arith}
 use lib.ListN.{length}
 use Rattle.basics.proofs.Booleans.{split}
 use Rattle.flow.specs.Entries.{keyOrder, sameKey}
-use Rattle.flow_table.specs.Types.{Action, Key, Ordering}
-use Rattle.flow_table.specs.FlowTable.{Table, entry, Sorted, insertBy, insert, removeIf, assignIf, anyOf, inside, clash, Effect, pkt, add, addc, modn, dels, deln, idle, after, get, foundAfter}
+use Rattle.flow_table.specs.Types.{Action, Key, Entry, Ordering, TableOperation, Effect}
+use Rattle.flow_table.specs.FlowTable.{Table, entry, Sorted, insertBy, insert, removeIf, assignIf, anyOf, inside, clash, tableEffect, after, get, foundAfter}
 use Rattle.flow_table.proofs.TableLaws.{sorted-insert, sorted-remove, sorted-assign, get-insert, get-remove, get-assign}
 
 -- what the operations do, by the test that they make
 module _ (k : Key) (a : Action) (t : Table) where
-  pub addc-no : anyOf (clash k) t ≡ true → after (addc k a) t ≡ t
+  pub addc-no : anyOf (clash k) t ≡ true → after (Effect.Addc k a) t ≡ t
   unfolding after
   addc-no e = rw e refl
 
-  pub addc-yes : anyOf (clash k) t ≡ false → after (addc k a) t ≡ insert k a t
+  pub addc-yes : anyOf (clash k) t ≡ false → after (Effect.Addc k a) t ≡ insert k a t
   unfolding after
   addc-yes e = rw e refl
 
-  pub modn-yes : anyOf (inside (k .pattern)) t ≡ true → after (modn k a) t ≡ assignIf (inside (k .pattern)) a t
+  pub modn-yes : anyOf (inside (k .pattern)) t ≡ true → after (Effect.Modn k a) t ≡ assignIf (inside (k .pattern)) a t
   unfolding after
   modn-yes e = rw e refl
 
-  pub modn-no : anyOf (inside (k .pattern)) t ≡ false → after (modn k a) t ≡ insert k a t
+  pub modn-no : anyOf (inside (k .pattern)) t ≡ false → after (Effect.Modn k a) t ≡ insert k a t
   unfolding after
   modn-no e = rw e refl
 
 -- a table in order stays in order
 pub sorted-after : (v : Effect) (t : Table) → Sorted t → Sorted (after v t)
 unfolding after
-sorted-after (pkt p) t s = s
-sorted-after (add k a) t s = sorted-insert k a t s
-sorted-after (addc k a) t s = split (anyOf (clash k) t) (λ e. rw e s) (λ e. rw e (sorted-insert k a t s))
-sorted-after (modn k a) t s = split (anyOf (inside (k .pattern)) t) (λ e. rw e (sorted-assign (inside (k .pattern)) a t s)) (λ e. rw e (sorted-insert k a t s))
-sorted-after (dels k) t s = sorted-remove (sameKey k) t s
-sorted-after (deln m) t s = sorted-remove (inside m) t s
-sorted-after idle t s = s
+sorted-after (Effect.Pkt p) t s = s
+sorted-after (Effect.Add k a) t s = sorted-insert k a t s
+sorted-after (Effect.Addc k a) t s = split (anyOf (clash k) t) (λ e. rw e s) (λ e. rw e (sorted-insert k a t s))
+sorted-after (Effect.Modn k a) t s = split (anyOf (inside (k .pattern)) t) (λ e. rw e (sorted-assign (inside (k .pattern)) a t s)) (λ e. rw e (sorted-insert k a t s))
+sorted-after (Effect.Dels k) t s = sorted-remove (sameKey k) t s
+sorted-after (Effect.Deln m) t s = sorted-remove (inside m) t s
+sorted-after Effect.Idle t s = s
 
 -- an operation adds at most one entry
 length-insert : (k : Key) (a : Action) (t : Table) → length (insert k a t) ≤ suc (length t)
@@ -64,21 +64,25 @@ length-assign p a (e ∷ t) = ap suc (length-assign p a t)
 
 pub length-after : (v : Effect) (t : Table) → length (after v t) ≤ suc (length t)
 unfolding after
-length-after (pkt p) t = omega arith
-length-after (add k a) t = length-insert k a t
-length-after (addc k a) t = split (anyOf (clash k) t) (λ e. rw e (omega arith)) (λ e. rw e (length-insert k a t))
-length-after (modn k a) t = split (anyOf (inside (k .pattern)) t) (λ e. rw e (omega (arith, length-assign (inside (k .pattern)) a t))) (λ e. rw e (length-insert k a t))
-length-after (dels k) t = omega (arith, length-remove (sameKey k) t)
-length-after (deln m) t = omega (arith, length-remove (inside m) t)
-length-after idle t = omega arith
+length-after (Effect.Pkt p) t = omega arith
+length-after (Effect.Add k a) t = length-insert k a t
+length-after (Effect.Addc k a) t = split (anyOf (clash k) t) (λ e. rw e (omega arith)) (λ e. rw e (length-insert k a t))
+length-after (Effect.Modn k a) t = split (anyOf (inside (k .pattern)) t) (λ e. rw e (omega (arith, length-assign (inside (k .pattern)) a t))) (λ e. rw e (length-insert k a t))
+length-after (Effect.Dels k) t = omega (arith, length-remove (sameKey k) t)
+length-after (Effect.Deln m) t = omega (arith, length-remove (inside m) t)
+length-after Effect.Idle t = omega arith
 
 -- what is found at a key after an event
 pub get-after : (v : Effect) (k : Key) (t : Table) → get k (after v t) ≡ foundAfter v k t
 unfolding after foundAfter
-get-after (pkt p) k t = refl
-get-after (add j a) k t = get-insert k j a t
-get-after (addc j a) k t = split (anyOf (clash j) t) (λ e. rw e refl) (λ e. rw e (get-insert k j a t))
-get-after (modn j a) k t = split (anyOf (inside (j .pattern)) t) (λ e. rw e (get-assign k (inside (j .pattern)) a t)) (λ e. rw e (get-insert k j a t))
-get-after (dels j) k t = get-remove k (sameKey j) t
-get-after (deln m) k t = get-remove k (inside m) t
-get-after idle k t = refl
+get-after (Effect.Pkt p) k t = refl
+get-after (Effect.Add j a) k t = get-insert k j a t
+get-after (Effect.Addc j a) k t = split (anyOf (clash j) t) (λ e. rw e refl) (λ e. rw e (get-insert k j a t))
+get-after (Effect.Modn j a) k t = split (anyOf (inside (j .pattern)) t) (λ e. rw e (get-assign k (inside (j .pattern)) a t)) (λ e. rw e (get-insert k j a t))
+get-after (Effect.Dels j) k t = get-remove k (sameKey j) t
+get-after (Effect.Deln m) k t = get-remove k (inside m) t
+get-after Effect.Idle k t = refl
+
+-- `mods` reads as `add`
+pub mods-is-add : (e : Entry) → tableEffect (TableOperation.ModifyStrict e) ≡ tableEffect (TableOperation.Add e)
+mods-is-add e = refl

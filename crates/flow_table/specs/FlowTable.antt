@@ -8,7 +8,7 @@ use lib.Dec.{eqb}
 use lib.ListN.{length}
 use Rattle.flow.specs.Matches.{fits, overlaps, within, MatchInRange, PacketInRange}
 use Rattle.flow.specs.Entries.{keyOrder, sameKey, KeyInRange, ActionInRange, EntryInRange}
-use Rattle.flow_table.specs.Types.{Match, Packet, Action, Key, Entry, Ordering, TableOperation, Operation, Answer}
+use Rattle.flow_table.specs.Types.{Match, Packet, Action, Key, Entry, Ordering, TableOperation, Operation, Answer, Effect}
 
 -- a table is the list of its entries, in strictly rising table order: so at most one entry has a key, and two tables with the
 -- same entries are equal (proofs/TableLaws.antt, `same-entries`)
@@ -94,51 +94,42 @@ firstAt n (e ∷ t) = Answer.Hit n (suc (length t)) (e .action)
 unfoldable pub best : Table → Answer
 best t = firstAt (highest t) (atPriority (highest t) t)
 
--- ---- what an event does to its switch's table, by document 01's words; `mods` reads as `add`
-pub data Effect : Type 0 where
-  pkt : Packet → Effect
-  add : Key → Action → Effect
-  addc : Key → Action → Effect
-  modn : Key → Action → Effect
-  dels : Key → Effect
-  deln : Match → Effect
-  idle : Effect
-
+-- ---- what an event does to its switch's table, by document 01's words (`Effect`, src/effect.rt); `mods` reads as `add`
 abbrev pub tableEffect : TableOperation → Effect
-tableEffect (TableOperation.Packet p) = pkt p
-tableEffect (TableOperation.Add e) = add (e .key) (e .action)
-tableEffect (TableOperation.AddChecked e) = addc (e .key) (e .action)
-tableEffect (TableOperation.ModifyStrict e) = add (e .key) (e .action)
-tableEffect (TableOperation.Modify e) = modn (e .key) (e .action)
-tableEffect (TableOperation.DeleteStrict k) = dels k
-tableEffect (TableOperation.Delete m) = deln m
+tableEffect (TableOperation.Packet p) = Effect.Pkt p
+tableEffect (TableOperation.Add e) = Effect.Add (e .key) (e .action)
+tableEffect (TableOperation.AddChecked e) = Effect.Addc (e .key) (e .action)
+tableEffect (TableOperation.ModifyStrict e) = Effect.Add (e .key) (e .action)
+tableEffect (TableOperation.Modify e) = Effect.Modn (e .key) (e .action)
+tableEffect (TableOperation.DeleteStrict k) = Effect.Dels k
+tableEffect (TableOperation.Delete m) = Effect.Deln m
 
 -- `oth`, `bar` and `msg` use no table
 abbrev pub effectOf : Operation → Effect
-effectOf Operation.Other = idle
-effectOf (Operation.Barrier w) = idle
-effectOf (Operation.Message w) = idle
+effectOf Operation.Other = Effect.Idle
+effectOf (Operation.Barrier w) = Effect.Idle
+effectOf (Operation.Message w) = Effect.Idle
 effectOf (Operation.Table w o) = tableEffect o
 
 -- the table that an event leaves
 unfoldable pub after : Effect → Table → Table
-after (pkt p) t = t
-after (add k a) t = insert k a t
-after (addc k a) t = cond (anyOf (clash k) t) t (insert k a t)
-after (modn k a) t = cond (anyOf (inside (k .pattern)) t) (assignIf (inside (k .pattern)) a t) (insert k a t)
-after (dels k) t = removeIf (sameKey k) t
-after (deln m) t = removeIf (inside m) t
-after idle t = t
+after (Effect.Pkt p) t = t
+after (Effect.Add k a) t = insert k a t
+after (Effect.Addc k a) t = cond (anyOf (clash k) t) t (insert k a t)
+after (Effect.Modn k a) t = cond (anyOf (inside (k .pattern)) t) (assignIf (inside (k .pattern)) a t) (insert k a t)
+after (Effect.Dels k) t = removeIf (sameKey k) t
+after (Effect.Deln m) t = removeIf (inside m) t
+after Effect.Idle t = t
 
 -- its answer
 unfoldable pub answer : Effect → Table → Answer
-answer (pkt p) t = best (fitting p t)
-answer (add k a) t = Answer.Silent
-answer (addc k a) t = Answer.Done (not (anyOf (clash k) t))
-answer (modn k a) t = Answer.Silent
-answer (dels k) t = Answer.Silent
-answer (deln m) t = Answer.Silent
-answer idle t = Answer.Silent
+answer (Effect.Pkt p) t = best (fitting p t)
+answer (Effect.Add k a) t = Answer.Silent
+answer (Effect.Addc k a) t = Answer.Done (not (anyOf (clash k) t))
+answer (Effect.Modn k a) t = Answer.Silent
+answer (Effect.Dels k) t = Answer.Silent
+answer (Effect.Deln m) t = Answer.Silent
+answer Effect.Idle t = Answer.Silent
 
 -- the same said of one key: what is found there after an event (proofs/Effects.antt, `get-after`)
 abbrev pub overwrite : Action → Option Action → Option Action
@@ -146,23 +137,23 @@ overwrite a none = none
 overwrite a (some b) = some a
 
 unfoldable pub foundAfter : Effect → Key → Table → Option Action
-foundAfter (pkt p) k t = get k t
-foundAfter (add j a) k t = cond (sameKey k j) (some a) (get k t)
-foundAfter (addc j a) k t = cond (anyOf (clash j) t) (get k t) (cond (sameKey k j) (some a) (get k t))
-foundAfter (modn j a) k t =
+foundAfter (Effect.Pkt p) k t = get k t
+foundAfter (Effect.Add j a) k t = cond (sameKey k j) (some a) (get k t)
+foundAfter (Effect.Addc j a) k t = cond (anyOf (clash j) t) (get k t) (cond (sameKey k j) (some a) (get k t))
+foundAfter (Effect.Modn j a) k t =
     cond (anyOf (inside (j .pattern)) t)
     (cond (inside (j .pattern) k) (overwrite a (get k t)) (get k t))
     (cond (sameKey k j) (some a) (get k t))
-foundAfter (dels j) k t = cond (sameKey j k) none (get k t)
-foundAfter (deln m) k t = cond (inside m k) none (get k t)
-foundAfter idle k t = get k t
+foundAfter (Effect.Dels j) k t = cond (sameKey j k) none (get k t)
+foundAfter (Effect.Deln m) k t = cond (inside m k) none (get k t)
+foundAfter Effect.Idle k t = get k t
 
 -- the ranges of document 01, for what an event carries
 abbrev pub EffectInRange : Effect → Type 0
-EffectInRange (pkt p) = PacketInRange p
-EffectInRange (add k a) = KeyInRange k × ActionInRange a
-EffectInRange (addc k a) = KeyInRange k × ActionInRange a
-EffectInRange (modn k a) = KeyInRange k × ActionInRange a
-EffectInRange (dels k) = KeyInRange k
-EffectInRange (deln m) = MatchInRange m
-EffectInRange idle = Unit {0}
+EffectInRange (Effect.Pkt p) = PacketInRange p
+EffectInRange (Effect.Add k a) = KeyInRange k × ActionInRange a
+EffectInRange (Effect.Addc k a) = KeyInRange k × ActionInRange a
+EffectInRange (Effect.Modn k a) = KeyInRange k × ActionInRange a
+EffectInRange (Effect.Dels k) = KeyInRange k
+EffectInRange (Effect.Deln m) = MatchInRange m
+EffectInRange Effect.Idle = Unit {0}

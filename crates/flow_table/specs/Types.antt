@@ -8,4 +8,5 @@ pub use Rattle.flow.specs.declared.ordering.Ordering.{Ordering}
 pub use Rattle.flow_table.specs.declared.operation.TableOperation.{TableOperation}
 pub use Rattle.flow_table.specs.declared.operation.Operation.{Operation}
 pub use Rattle.flow_table.specs.declared.operation.Answer.{Answer}
+pub use Rattle.flow_table.specs.declared.effect.Effect.{Effect}
 pub use Rattle.flow_table.specs.declared.carried.Carried.{Carried}

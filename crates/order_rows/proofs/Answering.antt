@@ -9,16 +9,17 @@ use lib.Dec.{eqb}
 use lib.ListN.{length, List·getD-eq-default}
 use borrow.Author.Tests.{eqb-true}
 use Rattle.basics.proofs.Booleans.{split}
-use Rattle.flow_table.specs.FlowTable.{Table, highest, atPriority, firstAt, fitting, best}
+use Rattle.flow_table.specs.FlowTable.{Table, highest, atPriority, firstAt, fitting, best, effectOf}
+use Rattle.flow_table.specs.Switches.{switchOf}
 use Rattle.order_meaning.specs.Orders.{IsOrderOf}
 use Rattle.basics.specs.Searches.{has}
 use Rattle.order_meaning.proofs.OrderLaws.{in-range}
 use Rattle.rows.specs.Rows.{tableOf}
-use Rattle.rows_step.specs.Stepping.{stepRows, tableAnswer, answerRows}
+use Rattle.rows_step.specs.Stepping.{stepRows, effectAnswer, answerRows}
 use Rattle.trace_events.specs.Events.{noEvent}
-use Rattle.order_rows.specs.Types.{Operation, Answer, Event, Row, TableOperation}
+use Rattle.order_rows.specs.Types.{Operation, Answer, Event, Row, Effect}
 use Rattle.order_rows.specs.Runs.{operationAt, keptIn, answersIn}
-use Rattle.replay_answers.specs.Answers.{hasAnswer, isSilent}
+use Rattle.replay_answers.specs.Answers.{answersAs, hasAnswer, isSilent}
 use Rattle.order_rows.proofs.EndTables.{kept-absent}
 
 -- a packet has an answer, a miss too
@@ -30,18 +31,19 @@ packet-answers t = at (highest t) (atPriority (highest t) t)
     at n [] = refl
     at n (e ∷ s) = refl
 
+effect-silent : (w : ℕ) (v : Effect) (rs : List Row) → isSilent (effectAnswer w v rs) ≡ not (answersAs v)
+unfolding effectAnswer
+effect-silent w (Effect.Pkt p) rs = packet-answers (fitting p (tableOf w rs))
+effect-silent w (Effect.Add k a) rs = refl
+effect-silent w (Effect.Addc k a) rs = refl
+effect-silent w (Effect.Modn k a) rs = refl
+effect-silent w (Effect.Dels k) rs = refl
+effect-silent w (Effect.Deln m) rs = refl
+effect-silent w Effect.Idle rs = refl
+
 answer-silent : (o : Operation) (rs : List Row) → isSilent (answerRows o rs) ≡ not (hasAnswer o)
-unfolding answerRows tableAnswer
-answer-silent Operation.Other rs = refl
-answer-silent (Operation.Barrier w) rs = refl
-answer-silent (Operation.Message w) rs = refl
-answer-silent (Operation.Table w (TableOperation.Packet p)) rs = packet-answers (fitting p (tableOf w rs))
-answer-silent (Operation.Table w (TableOperation.Add e)) rs = refl
-answer-silent (Operation.Table w (TableOperation.AddChecked e)) rs = refl
-answer-silent (Operation.Table w (TableOperation.ModifyStrict e)) rs = refl
-answer-silent (Operation.Table w (TableOperation.Modify e)) rs = refl
-answer-silent (Operation.Table w (TableOperation.DeleteStrict k)) rs = refl
-answer-silent (Operation.Table w (TableOperation.Delete m)) rs = refl
+unfolding answerRows
+answer-silent o rs = effect-silent (switchOf o) (effectOf o) rs
 
 module _ (es : List Event) where
   kept-silent : (i : ℕ) (o : List ℕ) (rs : List Row) (a : Answer) → has i o ≡ true → isSilent (keptIn es i o rs a) ≡ not (hasAnswer (operationAt es i))

@@ -1,20 +1,26 @@
 // The events of an order, taken from the front.
 use flow_table::Operation;
+use flow_table::effect_of;
 use replay_answers::Kept;
 use replay_answers::no_answers;
 use rows::Rows;
 use rows_search::Search;
 use rows_step::Put;
+use rows_step::Work;
 use rows_step::next_free;
 use rows_step::noted;
 use rows_step::work_of;
 use trace_events::Event;
 use trace_events::Trace;
+use trace_events::switch_of;
 ghost use mathlib.Core.Path.{_≡_};
 ghost use mathlib.Core.Bool.{cond};
 ghost use Prim.Native.Nat.{_≤_};
 ghost use lib.ListN.{length};
+ghost use Rattle.flow_table.specs.FlowTable.{effectOf};
+ghost use Rattle.flow_table.specs.Switches.{switchOf};
 ghost use Rattle.rows.specs.Rows.{rowsOf, SortedRows};
+ghost use Rattle.rows_step.specs.Inner.{WorkFor};
 ghost use Rattle.trace_events.specs.Events.{eventsOf};
 ghost use Rattle.order_run.specs.Inner.{RunsTo};
 
@@ -34,6 +40,13 @@ fn operation_of(present: bool, event: Event) -> Operation
     Operation::Other
 }
 
+// The work of an event, by its switch and what it does to that switch's table.
+fn event_work(o: Operation) -> Work
+    ensures { λ r. ⌜ WorkFor (switchOf o) (effectOf o) r ⌝ }
+{
+    work_of(switch_of(o), effect_of(o))
+}
+
 // Each event meets the rows that the one before it left: one pass over them in place, and then at most one row put at its place. The
 // loops stand here, since an inner call would copy the rows at each event.
 pub fn run(t: Trace, start: Rows, order: &[u8]) -> Ran
@@ -48,7 +61,7 @@ pub fn run(t: Trace, start: Rows, order: &[u8]) -> Ran
         let e = order[p] as usize;
         let event = t.events[e];
         let operation = operation_of(e < n, event);
-        let work = work_of(operation);
+        let work = event_work(operation);
         let switch = work.switch;
         let filter = work.filter;
         let change = work.change;

@@ -5,23 +5,21 @@ use Prim.Native.Nat.{ℕ, zero, suc}
 use Rattle.basics.specs.Text.{bytes}
 use Rattle.text_numbers.specs.Print.{printNumber}
 use Rattle.text_fields.specs.Print.{printAction}
-use Rattle.replay_answers.specs.Types.{TableOperation, Operation, Answer}
+use Rattle.flow_table.specs.FlowTable.{effectOf}
+use Rattle.replay_answers.specs.Types.{Operation, Answer, Effect}
 
 -- only `pkt` and `addc` events have an answer
-abbrev pub answersAs : TableOperation → Bool
-answersAs (TableOperation.Packet p) = true
-answersAs (TableOperation.Add e) = false
-answersAs (TableOperation.AddChecked e) = true
-answersAs (TableOperation.ModifyStrict e) = false
-answersAs (TableOperation.Modify e) = false
-answersAs (TableOperation.DeleteStrict k) = false
-answersAs (TableOperation.Delete m) = false
+abbrev pub answersAs : Effect → Bool
+answersAs (Effect.Pkt p) = true
+answersAs (Effect.Add k a) = false
+answersAs (Effect.Addc k a) = true
+answersAs (Effect.Modn k a) = false
+answersAs (Effect.Dels k) = false
+answersAs (Effect.Deln m) = false
+answersAs Effect.Idle = false
 
 abbrev pub hasAnswer : Operation → Bool
-hasAnswer Operation.Other = false
-hasAnswer (Operation.Barrier w) = false
-hasAnswer (Operation.Message w) = false
-hasAnswer (Operation.Table w o) = answersAs o
+hasAnswer o = answersAs (effectOf o)
 
 -- the item of an answer, with its space in front: a hit is its priority, how many entries fit at it, and the action
 unfoldable pub printItem : Answer → List ℕ

@@ -10,6 +10,8 @@ use native.Mathlib.Omega.{arith}
 use lib.ListN.{length, take, drop, getD, set, length-set}
 use lib.Seq.{take-set-le, getD-set-other}
 use Rattle.basics.proofs.Arrays.{next, ended, wrote, skipped, finished}
+use Rattle.flow_table.specs.FlowTable.{effectOf}
+use Rattle.flow_table.specs.Switches.{switchOf}
 use Rattle.rows.specs.Rows.{SortedRows, insertRow, anyRow, onSwitch, passes}
 use Rattle.rows.specs.Inner.{firstFor}
 use Rattle.rows_step.specs.Types.{Operation, Answer, Row, Filter, Put, Work}
@@ -134,7 +136,8 @@ pub record Passed (o : Operation) (rs : List Row) (n : ℕ) (l : List Row) (k : 
   pub answered : a ≡ answerRows o rs
 
 pub pass-end : (w : Work) (l₀ : List Row) (n : ℕ) (l : List Row) (i k : ℕ) (met : Bool) (a : Answer) → Passing w l₀ n l i k met a → n ≤ i
-    → (o : Operation) → WorkFor o w → SortedRows (take n l₀) → (p : Put) → p ≡ cond met Put.Nothing (w .put) → Passed o (take n l₀) n l k a p
+    → (o : Operation) → WorkFor (switchOf o) (effectOf o) w → SortedRows (take n l₀) → (p : Put) → p ≡ cond met Put.Nothing (w .put) → Passed o (take n l₀) n l k a p
+unfolding stepRows answerRows
 pass-end w l₀ n l i k met a s h o f z p q = record {
   size = s .size;
   most = omega (arith, s .below, s .within);

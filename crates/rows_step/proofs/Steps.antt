@@ -10,12 +10,11 @@ use lib.ListN.{length}
 use borrow.Author.Tests.{eqb-true}
 use Rattle.flow.specs.Entries.{sameKey}
 use Rattle.basics.proofs.Booleans.{split}
-use Rattle.flow_table.specs.FlowTable.{inside, clash, anyOf, tableEffect, after, answer}
-use Rattle.flow_table.specs.Switches.{stepOf, answerOf}
-use Rattle.rows.specs.Types.{TableOperation, Operation, Answer}
-use Rattle.rows.specs.declared.row.Row.{Row}
+use Rattle.flow_table.specs.FlowTable.{entry, inside, clash, anyOf, effectOf, after, answer}
+use Rattle.flow_table.specs.Switches.{switchOf, stepOf, answerOf}
 use Rattle.rows.specs.Rows.{row, SortedRows, tableOf, tablesOf, anyRow, onSwitch}
-use Rattle.rows_step.specs.Stepping.{tableStep, stepRows, tableAnswer, answerRows}
+use Rattle.rows_step.specs.Types.{Operation, Answer, Effect, Row}
+use Rattle.rows_step.specs.Stepping.{effectStep, stepRows, effectAnswer, answerRows}
 use Rattle.rows.proofs.RowLaws.{sorted-insert-row, sorted-remove, sorted-assign, length-insert, length-remove, length-assign}
 use Rattle.rows.proofs.TablesOf.{table-insert, table-remove, table-assign, table-any}
 
@@ -25,86 +24,78 @@ cond-idle true x = refl
 cond-idle false x = refl
 
 module _ (v : ℕ) (rs : List Row) (s : SortedRows rs) where
-  step-table : (w : ℕ) (o : TableOperation) → tableOf v (tableStep w o rs) ≡ cond (eqb v w) (after (tableEffect o) (tableOf v rs)) (tableOf v rs)
-  unfolding tableStep after
-  step-table w (TableOperation.Packet p) = cond-idle (eqb v w) (tableOf v rs)
-  step-table w (TableOperation.Add e) = table-insert v (row w e) rs s
-  step-table w (TableOperation.AddChecked e) =
-      split (anyRow (onSwitch w (clash (e .key))) rs)
+  step-table : (w : ℕ) (f : Effect) → tableOf v (effectStep w f rs) ≡ cond (eqb v w) (after f (tableOf v rs)) (tableOf v rs)
+  unfolding effectStep after
+  step-table w (Effect.Pkt p) = cond-idle (eqb v w) (tableOf v rs)
+  step-table w (Effect.Add k a) = table-insert v (row w (entry k a)) rs s
+  step-table w (Effect.Addc k a) =
+      split (anyRow (onSwitch w (clash k)) rs)
       (λ q. rw q (split (eqb v w) (λ u. rw (u, asked u q) refl) (λ u. rw u refl)))
-      (λ q. rw q (table-insert v (row w e) rs s ∙ split (eqb v w) (λ u. rw (u, asked u q) refl) (λ u. rw u refl)))
+      (λ q. rw q (table-insert v (row w (entry k a)) rs s ∙ split (eqb v w) (λ u. rw (u, asked u q) refl) (λ u. rw u refl)))
     where
-      asked : {b : Bool} → eqb v w ≡ true → anyRow (onSwitch w (clash (e .key))) rs ≡ b → anyOf (clash (e .key)) (tableOf v rs) ≡ b
-      asked u q = ap (λ k. anyOf (clash (e .key)) (tableOf k rs)) (eqb-true v w u) ∙ sym (table-any w (clash (e .key)) rs) ∙ q
-  step-table w (TableOperation.ModifyStrict e) = table-insert v (row w e) rs s
-  step-table w (TableOperation.Modify e) =
-      split (anyRow (onSwitch w (inside (e .key .pattern))) rs)
-      (λ q. rw q (table-assign w (inside (e .key .pattern)) v (e .action) rs ∙ split (eqb v w) (λ u. rw (u, asked u q) refl) (λ u. rw u refl)))
-      (λ q. rw q (table-insert v (row w e) rs s ∙ split (eqb v w) (λ u. rw (u, asked u q) refl) (λ u. rw u refl)))
+      asked : {b : Bool} → eqb v w ≡ true → anyRow (onSwitch w (clash k)) rs ≡ b → anyOf (clash k) (tableOf v rs) ≡ b
+      asked u q = ap (λ n. anyOf (clash k) (tableOf n rs)) (eqb-true v w u) ∙ sym (table-any w (clash k) rs) ∙ q
+  step-table w (Effect.Modn k a) =
+      split (anyRow (onSwitch w (inside (k .pattern))) rs)
+      (λ q. rw q (table-assign w (inside (k .pattern)) v a rs ∙ split (eqb v w) (λ u. rw (u, asked u q) refl) (λ u. rw u refl)))
+      (λ q. rw q (table-insert v (row w (entry k a)) rs s ∙ split (eqb v w) (λ u. rw (u, asked u q) refl) (λ u. rw u refl)))
     where
-      asked : {b : Bool} → eqb v w ≡ true → anyRow (onSwitch w (inside (e .key .pattern))) rs ≡ b → anyOf (inside (e .key .pattern)) (tableOf v rs) ≡ b
-      asked u q = ap (λ k. anyOf (inside (e .key .pattern)) (tableOf k rs)) (eqb-true v w u) ∙ sym (table-any w (inside (e .key .pattern)) rs) ∙ q
-  step-table w (TableOperation.DeleteStrict k) = table-remove w (sameKey k) v rs
-  step-table w (TableOperation.Delete m) = table-remove w (inside m) v rs
+      asked : {b : Bool} → eqb v w ≡ true → anyRow (onSwitch w (inside (k .pattern))) rs ≡ b → anyOf (inside (k .pattern)) (tableOf v rs) ≡ b
+      asked u q = ap (λ n. anyOf (inside (k .pattern)) (tableOf n rs)) (eqb-true v w u) ∙ sym (table-any w (inside (k .pattern)) rs) ∙ q
+  step-table w (Effect.Dels k) = table-remove w (sameKey k) v rs
+  step-table w (Effect.Deln m) = table-remove w (inside m) v rs
+  step-table w Effect.Idle = cond-idle (eqb v w) (tableOf v rs)
 
   -- switch by switch
   pub step-tables : (o : Operation) → tableOf v (stepRows o rs) ≡ stepOf o (tablesOf rs) v
-  unfolding stepRows stepOf after
-  step-tables Operation.Other = cond-idle (eqb v 0) (tableOf v rs)
-  step-tables (Operation.Barrier w) = cond-idle (eqb v w) (tableOf v rs)
-  step-tables (Operation.Message w) = cond-idle (eqb v w) (tableOf v rs)
-  step-tables (Operation.Table w o) = step-table w o
+  unfolding stepRows stepOf
+  step-tables o = step-table (switchOf o) (effectOf o)
 
 -- the answer
+answer-table : (w : ℕ) (f : Effect) (rs : List Row) → effectAnswer w f rs ≡ answer f (tableOf w rs)
+unfolding effectAnswer answer
+answer-table w (Effect.Pkt p) rs = refl
+answer-table w (Effect.Add k a) rs = refl
+answer-table w (Effect.Addc k a) rs = ap (λ b. Answer.Done (not b)) (table-any w (clash k) rs)
+answer-table w (Effect.Modn k a) rs = refl
+answer-table w (Effect.Dels k) rs = refl
+answer-table w (Effect.Deln m) rs = refl
+answer-table w Effect.Idle rs = refl
+
 pub answer-tables : (o : Operation) (rs : List Row) → answerRows o rs ≡ answerOf o (tablesOf rs)
-unfolding answerRows tableAnswer answerOf answer
-answer-tables Operation.Other rs = refl
-answer-tables (Operation.Barrier w) rs = refl
-answer-tables (Operation.Message w) rs = refl
-answer-tables (Operation.Table w (TableOperation.Packet p)) rs = refl
-answer-tables (Operation.Table w (TableOperation.Add e)) rs = refl
-answer-tables (Operation.Table w (TableOperation.AddChecked e)) rs = ap (λ b. Answer.Done (not b)) (table-any w (clash (e .key)) rs)
-answer-tables (Operation.Table w (TableOperation.ModifyStrict e)) rs = refl
-answer-tables (Operation.Table w (TableOperation.Modify e)) rs = refl
-answer-tables (Operation.Table w (TableOperation.DeleteStrict k)) rs = refl
-answer-tables (Operation.Table w (TableOperation.Delete m)) rs = refl
+unfolding answerRows answerOf
+answer-tables o rs = answer-table (switchOf o) (effectOf o) rs
 
 -- ---- the order is kept
-sorted-table-step : (w : ℕ) (o : TableOperation) (rs : List Row) → SortedRows rs → SortedRows (tableStep w o rs)
-unfolding tableStep
-sorted-table-step w (TableOperation.Packet p) rs s = s
-sorted-table-step w (TableOperation.Add e) rs s = sorted-insert-row (row w e) rs s
-sorted-table-step w (TableOperation.AddChecked e) rs s = split (anyRow (onSwitch w (clash (e .key))) rs) (λ q. rw q s) (λ q. rw q (sorted-insert-row (row w e) rs s))
-sorted-table-step w (TableOperation.ModifyStrict e) rs s = sorted-insert-row (row w e) rs s
-sorted-table-step w (TableOperation.Modify e) rs s =
-    split (anyRow (onSwitch w (inside (e .key .pattern))) rs) (λ q. rw q (sorted-assign (onSwitch w (inside (e .key .pattern))) (e .action) rs s)) (λ q. rw q (sorted-insert-row (row w e) rs s))
-sorted-table-step w (TableOperation.DeleteStrict k) rs s = sorted-remove (onSwitch w (sameKey k)) rs s
-sorted-table-step w (TableOperation.Delete m) rs s = sorted-remove (onSwitch w (inside m)) rs s
+sorted-table : (w : ℕ) (f : Effect) (rs : List Row) → SortedRows rs → SortedRows (effectStep w f rs)
+unfolding effectStep
+sorted-table w (Effect.Pkt p) rs s = s
+sorted-table w (Effect.Add k a) rs s = sorted-insert-row (row w (entry k a)) rs s
+sorted-table w (Effect.Addc k a) rs s = split (anyRow (onSwitch w (clash k)) rs) (λ q. rw q s) (λ q. rw q (sorted-insert-row (row w (entry k a)) rs s))
+sorted-table w (Effect.Modn k a) rs s =
+    split (anyRow (onSwitch w (inside (k .pattern))) rs) (λ q. rw q (sorted-assign (onSwitch w (inside (k .pattern))) a rs s)) (λ q. rw q (sorted-insert-row (row w (entry k a)) rs s))
+sorted-table w (Effect.Dels k) rs s = sorted-remove (onSwitch w (sameKey k)) rs s
+sorted-table w (Effect.Deln m) rs s = sorted-remove (onSwitch w (inside m)) rs s
+sorted-table w Effect.Idle rs s = s
 
 pub sorted-step : (o : Operation) (rs : List Row) → SortedRows rs → SortedRows (stepRows o rs)
 unfolding stepRows
-sorted-step Operation.Other rs s = s
-sorted-step (Operation.Barrier w) rs s = s
-sorted-step (Operation.Message w) rs s = s
-sorted-step (Operation.Table w o) rs s = sorted-table-step w o rs s
+sorted-step o rs s = sorted-table (switchOf o) (effectOf o) rs s
 
 -- ---- at most one row more
-length-table-step : (w : ℕ) (o : TableOperation) (rs : List Row) → length (tableStep w o rs) ≤ suc (length rs)
-unfolding tableStep
-length-table-step w (TableOperation.Packet p) rs = omega arith
-length-table-step w (TableOperation.Add e) rs = length-insert (row w e) rs
-length-table-step w (TableOperation.AddChecked e) rs = split (anyRow (onSwitch w (clash (e .key))) rs) (λ q. rw q (omega arith)) (λ q. rw q (length-insert (row w e) rs))
-length-table-step w (TableOperation.ModifyStrict e) rs = length-insert (row w e) rs
-length-table-step w (TableOperation.Modify e) rs =
-    split (anyRow (onSwitch w (inside (e .key .pattern))) rs)
-    (λ q. rw q (omega (arith, length-assign (onSwitch w (inside (e .key .pattern))) (e .action) rs)))
-    (λ q. rw q (length-insert (row w e) rs))
-length-table-step w (TableOperation.DeleteStrict k) rs = omega (arith, length-remove (onSwitch w (sameKey k)) rs)
-length-table-step w (TableOperation.Delete m) rs = omega (arith, length-remove (onSwitch w (inside m)) rs)
+length-table : (w : ℕ) (f : Effect) (rs : List Row) → length (effectStep w f rs) ≤ suc (length rs)
+unfolding effectStep
+length-table w (Effect.Pkt p) rs = omega arith
+length-table w (Effect.Add k a) rs = length-insert (row w (entry k a)) rs
+length-table w (Effect.Addc k a) rs = split (anyRow (onSwitch w (clash k)) rs) (λ q. rw q (omega arith)) (λ q. rw q (length-insert (row w (entry k a)) rs))
+length-table w (Effect.Modn k a) rs =
+    split (anyRow (onSwitch w (inside (k .pattern))) rs)
+    (λ q. rw q (omega (arith, length-assign (onSwitch w (inside (k .pattern))) a rs)))
+    (λ q. rw q (length-insert (row w (entry k a)) rs))
+length-table w (Effect.Dels k) rs = omega (arith, length-remove (onSwitch w (sameKey k)) rs)
+length-table w (Effect.Deln m) rs = omega (arith, length-remove (onSwitch w (inside m)) rs)
+length-table w Effect.Idle rs = omega arith
 
 pub length-step : (o : Operation) (rs : List Row) → length (stepRows o rs) ≤ suc (length rs)
 unfolding stepRows
-length-step Operation.Other rs = omega arith
-length-step (Operation.Barrier w) rs = omega arith
-length-step (Operation.Message w) rs = omega arith
-length-step (Operation.Table w o) rs = length-table-step w o rs
+length-step o rs = length-table (switchOf o) (effectOf o) rs

@@ -1,4 +1,4 @@
--- What a pass over the rows does, and the work of each operation: what the pass and the row put in after it leave and answer is what the
+-- What a pass over the rows does, and the work of each event: what the pass and the row put in after it leave and answer is what the
 -- event does. Assumes nothing.
 use mathlib.Core.Path.{_≡_, refl, sym, _∙_, ap}
 use mathlib.Core.Bool.{Bool, true, false, not, cond}
@@ -6,11 +6,11 @@ use mathlib.Core.List.{List, [], _∷_}
 use Prim.Native.Nat.{ℕ}
 use lib.Dec.{eqb}
 use Rattle.basics.proofs.Booleans.{split, and-false-right, or-left, or-right}
-use Rattle.flow_table.specs.FlowTable.{inside, clash, admits}
+use Rattle.flow_table.specs.FlowTable.{entry, inside, clash, admits}
 use Rattle.rows.specs.Rows.{row, SortedRows, insertRow, removeRows, assignRow, assignRows, anyRow, onSwitch, passes}
 use Rattle.rows.proofs.RowLaws.{sorted-remove, sorted-assign}
-use Rattle.rows_step.specs.Types.{Packet, Entry, TableOperation, Operation, Answer, Row, Filter, Change, Put}
-use Rattle.rows_step.specs.Stepping.{tableStep, stepRows, tableAnswer, answerRows}
+use Rattle.rows_step.specs.Types.{Packet, Action, Key, Entry, Answer, Effect, Row, Filter, Change, Put}
+use Rattle.rows_step.specs.Stepping.{effectStep, effectAnswer}
 use Rattle.rows_step.specs.Inner.{changed, isDropped, treated, seen, seenRows, withPut, WorkFor}
 use Rattle.rows_step.proofs.Lookups.{lookup-best}
 
@@ -78,47 +78,47 @@ unfolding anyRow onSwitch
 nothing-passes w [] = refl
 nothing-passes w (x ∷ xs) = rw (and-false-right (eqb w (x .switch)) refl) (nothing-passes w xs)
 
--- ---- the work of each operation
+-- ---- the work of each event
 -- nothing is asked
-pub putting-work : (o : Operation) (p : Put) → ((rs : List Row) → stepRows o rs ≡ withPut p rs) → ((rs : List Row) → answerRows o rs ≡ Answer.Silent)
-    → WorkFor o (record { switch = 0; filter = Filter.Nothing; change = Change.Keep; put = p; answer = Answer.Silent })
+pub putting-work : (s : ℕ) (v : Effect) (p : Put) → ((rs : List Row) → effectStep s v rs ≡ withPut p rs) → ((rs : List Row) → effectAnswer s v rs ≡ Answer.Silent)
+    → WorkFor s v (record { switch = 0; filter = Filter.Nothing; change = Change.Keep; put = p; answer = Answer.Silent })
 unfolding changed
-putting-work o p f g = record {
+putting-work s v p f g = record {
   fresh = refl;
   rows = λ rs. f rs ∙ rw (nothing-passes 0 rs) refl;
   answered = λ rs. g rs ∙ silent-stays _ rs;
 }
 
-pub packet-work : (w : ℕ) (p : Packet) → WorkFor (Operation.Table w (TableOperation.Packet p)) (record { switch = w; filter = Filter.Fits p; change = Change.Keep; put = Put.Nothing; answer = Answer.Miss })
-unfolding changed stepRows tableStep answerRows tableAnswer
-packet-work w p = record {
+pub packet-work : (s : ℕ) (p : Packet) → WorkFor s (Effect.Pkt p) (record { switch = s; filter = Filter.Fits p; change = Change.Keep; put = Put.Nothing; answer = Answer.Miss })
+unfolding changed effectStep effectAnswer
+packet-work s p = record {
   fresh = refl;
-  rows = λ rs. split (anyRow (onSwitch w (admits p)) rs) (λ u. rw u refl) (λ u. rw u refl);
-  answered = λ rs. sym (lookup-best w p rs);
+  rows = λ rs. split (anyRow (onSwitch s (admits p)) rs) (λ u. rw u refl) (λ u. rw u refl);
+  answered = λ rs. sym (lookup-best s p rs);
 }
 
-pub checked-work : (w : ℕ) (e : Entry) → WorkFor (Operation.Table w (TableOperation.AddChecked e)) (record { switch = w; filter = Filter.Clash (e .key); change = Change.Keep; put = Put.One (row w e); answer = Answer.Done true })
-unfolding changed stepRows tableStep answerRows tableAnswer
-checked-work w e = record {
+pub checked-work : (s : ℕ) (k : Key) (a : Action) → WorkFor s (Effect.Addc k a) (record { switch = s; filter = Filter.Clash k; change = Change.Keep; put = Put.One (row s (entry k a)); answer = Answer.Done true })
+unfolding changed effectStep effectAnswer
+checked-work s k a = record {
   fresh = refl;
-  rows = λ rs. split (anyRow (onSwitch w (clash (e .key))) rs) (λ u. rw u refl) (λ u. rw u refl);
+  rows = λ rs. split (anyRow (onSwitch s (clash k)) rs) (λ u. rw u refl) (λ u. rw u refl);
   answered = λ rs. sym (done-unless _ rs);
 }
 
-pub modify-work : (w : ℕ) (e : Entry) → WorkFor (Operation.Table w (TableOperation.Modify e)) (record { switch = w; filter = Filter.Within (e .key .pattern); change = Change.Assign (e .action); put = Put.One (row w e); answer = Answer.Silent })
-unfolding changed stepRows tableStep answerRows tableAnswer
-modify-work w e = record {
+pub modify-work : (s : ℕ) (k : Key) (a : Action) → WorkFor s (Effect.Modn k a) (record { switch = s; filter = Filter.Within (k .pattern); change = Change.Assign a; put = Put.One (row s (entry k a)); answer = Answer.Silent })
+unfolding changed effectStep effectAnswer
+modify-work s k a = record {
   fresh = refl;
-  rows = λ rs. split (anyRow (onSwitch w (inside (e .key .pattern))) rs) (λ u. rw u refl) (λ u. rw u (ap (insertRow (row w e)) (sym (none-pass _ (Change.Assign (e .action)) rs u))));
+  rows = λ rs. split (anyRow (onSwitch s (inside (k .pattern))) rs) (λ u. rw u refl) (λ u. rw u (ap (insertRow (row s (entry k a))) (sym (none-pass _ (Change.Assign a) rs u))));
   answered = λ rs. silent-stays _ rs;
 }
 
--- the rows of switch w that pass are dropped
-pub removing-work : (o : Operation) (w : ℕ) (f : Filter) → ((rs : List Row) → stepRows o rs ≡ removeRows (onSwitch w (passes f)) rs) → ((rs : List Row) → answerRows o rs ≡ Answer.Silent)
-    → WorkFor o (record { switch = w; filter = f; change = Change.Drop; put = Put.Nothing; answer = Answer.Silent })
+-- the rows of switch s that pass are dropped
+pub removing-work : (s : ℕ) (v : Effect) (f : Filter) → ((rs : List Row) → effectStep s v rs ≡ removeRows (onSwitch s (passes f)) rs) → ((rs : List Row) → effectAnswer s v rs ≡ Answer.Silent)
+    → WorkFor s v (record { switch = s; filter = f; change = Change.Drop; put = Put.Nothing; answer = Answer.Silent })
 unfolding changed
-removing-work o w f s g = record {
+removing-work s v f h g = record {
   fresh = refl;
-  rows = λ rs. s rs ∙ split (anyRow (onSwitch w (passes f)) rs) (λ u. rw u refl) (λ u. rw u refl);
+  rows = λ rs. h rs ∙ split (anyRow (onSwitch s (passes f)) rs) (λ u. rw u refl) (λ u. rw u refl);
   answered = λ rs. g rs ∙ silent-stays _ rs;
 }

@@ -6,8 +6,8 @@ use mathlib.Core.List.{List, [], _∷_}
 use Prim.Native.Nat.{ℕ, _+_}
 use lib.Dec.{eqb, ltb}
 use Rattle.rows.specs.Rows.{insertRow, removeRows, assignRow, assignRows, anyRow, onSwitch, passes}
-use Rattle.rows_step.specs.Types.{Action, Entry, Operation, Answer, Row, Change, Put, Work}
-use Rattle.rows_step.specs.Stepping.{stepRows, answerRows}
+use Rattle.rows_step.specs.Types.{Action, Entry, Answer, Effect, Row, Change, Put, Work}
+use Rattle.rows_step.specs.Stepping.{effectStep, effectAnswer}
 
 -- ---- the rows that pass a test are kept, dropped or assigned
 unfoldable pub changed : Change → (Row → Bool) → List Row → List Row
@@ -61,8 +61,9 @@ withPut (Put.One r) rs = insertRow r rs
 abbrev pub chosen : Work → Row → Bool
 chosen w = onSwitch (w .switch) (passes (w .filter))
 
--- w is the work of an event that does o: what o leaves and answers is what the pass does, with a row put in where none passed
-pub record WorkFor (o : Operation) (w : Work) : Type 0 where
+-- w is the work of an event of switch s with the effect v: what it leaves and answers is what the pass does, with a row put in where
+-- none passed
+pub record WorkFor (s : ℕ) (v : Effect) (w : Work) : Type 0 where
   pub fresh : counted (w .answer) ≡ 0
-  pub rows : (rs : List Row) → stepRows o rs ≡ withPut (cond (anyRow (chosen w) rs) Put.Nothing (w .put)) (changed (w .change) (chosen w) rs)
-  pub answered : (rs : List Row) → answerRows o rs ≡ seenRows (chosen w) (w .answer) rs
+  pub rows : (rs : List Row) → effectStep s v rs ≡ withPut (cond (anyRow (chosen w) rs) Put.Nothing (w .put)) (changed (w .change) (chosen w) rs)
+  pub answered : (rs : List Row) → effectAnswer s v rs ≡ seenRows (chosen w) (w .answer) rs

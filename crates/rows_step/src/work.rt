@@ -1,14 +1,17 @@
 // What an event does to the rows of a switch: those that pass a filter are kept, dropped or assigned, and where none passes a row may
 // be put in.
 use flow::Action;
+use flow::Entry;
+use flow::Key;
 use flow_table::Answer;
-use flow_table::Operation;
-use flow_table::TableOperation;
+use flow_table::Effect;
 use rows::Filter;
 use rows::Row;
 ghost use mathlib.Core.Path.{_≡_};
 ghost use mathlib.Core.Bool.{cond};
 ghost use Prim.Native.Nat.{_+_, _<_, _≤_};
+ghost use Rattle.flow_table.specs.FlowTable.{entry};
+ghost use Rattle.rows.specs.Rows.{row};
 ghost use Rattle.rows_step.specs.Inner.{isDropped, treated, WorkFor};
 
 // What becomes of the rows that pass.
@@ -105,54 +108,46 @@ fn removing(switch: u8, filter: Filter) -> Work
     }
 }
 
-fn table_work(switch: u8, o: TableOperation) -> Work
-    ensures { λ r. ⌜ WorkFor (Operation.Table switch o) r ⌝ }
+// A row put in.
+fn one(switch: u8, key: Key, action: Action) -> Put
+    ensures { λ r. ⌜ r ≡ Put.One (row switch (entry key action)) ⌝ }
 {
-    match o {
-        TableOperation::Packet(packet) => Work {
+    let entry = Entry { key, action };
+    Put::One(Row { switch, entry })
+}
+
+// The work of an event, by its switch and what it does to that switch's table.
+pub fn work_of(switch: u8, effect: Effect) -> Work
+    ensures { λ r. ⌜ WorkFor switch effect r ⌝ }
+{
+    match effect {
+        Effect::Pkt(p) => Work {
             switch,
-            filter: Filter::Fits(packet),
+            filter: Filter::Fits(p),
             change: Change::Keep,
             put: Put::Nothing,
             answer: Answer::Miss,
         },
-        TableOperation::Add(entry) => putting(Put::One(Row { switch, entry })),
-        TableOperation::AddChecked(entry) => {
-            let k = entry.key;
-            Work {
-                switch,
-                filter: Filter::Clash(k),
-                change: Change::Keep,
-                put: Put::One(Row { switch, entry }),
-                answer: Answer::Done(true),
-            }
-        }
-        TableOperation::ModifyStrict(entry) => putting(Put::One(Row { switch, entry })),
-        TableOperation::Modify(entry) => {
-            let k = entry.key;
+        Effect::Add(k, a) => putting(one(switch, k, a)),
+        Effect::Addc(k, a) => Work {
+            switch,
+            filter: Filter::Clash(k),
+            change: Change::Keep,
+            put: one(switch, k, a),
+            answer: Answer::Done(true),
+        },
+        Effect::Modn(k, a) => {
             let m = k.pattern;
-            let action = entry.action;
             Work {
                 switch,
                 filter: Filter::Within(m),
-                change: Change::Assign(action),
-                put: Put::One(Row { switch, entry }),
+                change: Change::Assign(a),
+                put: one(switch, k, a),
                 answer: Answer::Silent,
             }
         }
-        TableOperation::DeleteStrict(k) => removing(switch, Filter::Same(k)),
-        TableOperation::Delete(m) => removing(switch, Filter::Within(m)),
-    }
-}
-
-// The work of an event; `oth`, `bar` and `msg` have none.
-pub fn work_of(o: Operation) -> Work
-    ensures { λ r. ⌜ WorkFor o r ⌝ }
-{
-    match o {
-        Operation::Other => putting(Put::Nothing),
-        Operation::Barrier(_) => putting(Put::Nothing),
-        Operation::Message(_) => putting(Put::Nothing),
-        Operation::Table(switch, operation) => table_work(switch, operation),
+        Effect::Dels(k) => removing(switch, Filter::Same(k)),
+        Effect::Deln(m) => removing(switch, Filter::Within(m)),
+        Effect::Idle => putting(Put::Nothing),
     }
 }

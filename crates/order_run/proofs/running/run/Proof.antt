@@ -6,6 +6,8 @@ use mathlib.Core.Path.{_≡_, _∙_, subst}
 use mathlib.Core.List.{List}
 use lib.ListN.{length, getD, take, length-set}
 use borrow.Author.Needs.{needs}
+use Rattle.flow_table.specs.FlowTable.{effectOf}
+use Rattle.flow_table.specs.Switches.{switchOf}
 use Rattle.trace_events.specs.Events.{eventsOf}
 use Rattle.basics.proofs.Arrays.{length-mapped}
 use Rattle.rows_step.specs.Inner.{WorkFor}
@@ -47,10 +49,10 @@ abbrev μ-loop : tie.MeasureT-loop
 abbrev entered : tie.In-loop Inv-loop2 μ-loop2 Inv-loop3 μ-loop3 Inv-loop4 μ-loop4 Inv-loop μ-loop → tie.Start Inv-loop2 μ-loop2 Inv-loop3 μ-loop3 Inv-loop4 μ-loop4 Inv-loop μ-loop
 entered a = a .before .before .before .before .before
 
-abbrev turn : tie.After-work-of Inv-loop2 μ-loop2 Inv-loop3 μ-loop3 Inv-loop4 μ-loop4 Inv-loop μ-loop → tie.In-loop Inv-loop2 μ-loop2 Inv-loop3 μ-loop3 Inv-loop4 μ-loop4 Inv-loop μ-loop
+abbrev turn : tie.After-event-work Inv-loop2 μ-loop2 Inv-loop3 μ-loop3 Inv-loop4 μ-loop4 Inv-loop μ-loop → tie.In-loop Inv-loop2 μ-loop2 Inv-loop3 μ-loop3 Inv-loop4 μ-loop4 Inv-loop μ-loop
 turn a = a .before .before .before .before
 
-abbrev worked : tie.At-loop2 Inv-loop2 μ-loop2 Inv-loop3 μ-loop3 Inv-loop4 μ-loop4 Inv-loop μ-loop → tie.After-work-of Inv-loop2 μ-loop2 Inv-loop3 μ-loop3 Inv-loop4 μ-loop4 Inv-loop μ-loop
+abbrev worked : tie.At-loop2 Inv-loop2 μ-loop2 Inv-loop3 μ-loop3 Inv-loop4 μ-loop4 Inv-loop μ-loop → tie.After-event-work Inv-loop2 μ-loop2 Inv-loop3 μ-loop3 Inv-loop4 μ-loop4 Inv-loop μ-loop
 worked a = a .before .before
 
 abbrev passed : tie.After-unless Inv-loop2 μ-loop2 Inv-loop3 μ-loop3 Inv-loop4 μ-loop4 Inv-loop μ-loop → tie.At-loop2 Inv-loop2 μ-loop2 Inv-loop3 μ-loop3 Inv-loop4 μ-loop4 Inv-loop μ-loop
@@ -69,15 +71,15 @@ room : (a : tie.In-loop Inv-loop2 μ-loop2 Inv-loop3 μ-loop3 Inv-loop4 μ-loop4
 room a = omega (arith, entered a .pre .0, entered a .pre .1, a .loop-test .taken, a .before .loop .inv .1 .count)
 
 -- what the event does
-abbrev does : tie.After-work-of Inv-loop2 μ-loop2 Inv-loop3 μ-loop3 Inv-loop4 μ-loop4 Inv-loop μ-loop → Operation
+abbrev does : tie.After-event-work Inv-loop2 μ-loop2 Inv-loop3 μ-loop3 Inv-loop4 μ-loop4 Inv-loop μ-loop → Operation
 does a = operationAt (eventsOf (entered (turn a) .args .t1)) (getD (entered (turn a) .args .order .now) (turn a .before .loop .p) 0)
 
 -- the work is the event's
-work-for : (a : tie.After-work-of Inv-loop2 μ-loop2 Inv-loop3 μ-loop3 Inv-loop4 μ-loop4 Inv-loop μ-loop) → WorkFor (does a) (a .work-of .result)
-work-for a = subst (λ o. WorkFor o (a .work-of .result)) (a .before .operation-of .ensures ∙ operation-here (entered (turn a) .args .t1) (getD (entered (turn a) .args .order .now) (turn a .before .loop .p) 0)) (a .work-of .ensures)
+work-for : (a : tie.After-event-work Inv-loop2 μ-loop2 Inv-loop3 μ-loop3 Inv-loop4 μ-loop4 Inv-loop μ-loop) → WorkFor (switchOf (does a)) (effectOf (does a)) (a .event-work .result)
+work-for a = subst (λ o. WorkFor (switchOf o) (effectOf o) (a .event-work .result)) (a .before .operation-of .ensures ∙ operation-here (entered (turn a) .args .t1) (getD (entered (turn a) .args .order .now) (turn a .before .loop .p) 0)) (a .event-work .ensures)
 
 -- the rows that the event meets
-abbrev met-rows : (a : tie.After-work-of Inv-loop2 μ-loop2 Inv-loop3 μ-loop3 Inv-loop4 μ-loop4 Inv-loop μ-loop) → List Row
+abbrev met-rows : (a : tie.After-event-work Inv-loop2 μ-loop2 Inv-loop3 μ-loop3 Inv-loop4 μ-loop4 Inv-loop μ-loop) → List Row
 met-rows a = take (turn a .before .loop .len) (turn a .before .loop .rows)
 
 -- the pass is done
@@ -108,7 +110,7 @@ element-copy-out-event c = omega (arith, known c)
 loop2-holds : tie.Need-loop2-holds Inv-loop2 μ-loop2 Inv-loop3 μ-loop3 Inv-loop4 μ-loop4 Inv-loop μ-loop
 loop2-holds c =
     let l = turn (c .before) .before .loop in
-    pass-start (c .before .work-of .result) (l .rows) (l .len) (l .inv .1 .size) (omega (arith, room (turn (c .before)))) (work-for (c .before) .fresh) _ (c .first .ensures)
+    pass-start (c .before .event-work .result) (l .rows) (l .len) (l .inv .1 .size) (omega (arith, room (turn (c .before)))) (work-for (c .before) .fresh) _ (c .first .ensures)
 
 array-copy-out-x : tie.Need-array-copy-out-x Inv-loop2 μ-loop2 Inv-loop3 μ-loop3 Inv-loop4 μ-loop4 Inv-loop μ-loop
 array-copy-out-x c = omega (arith, c .before .loop2 .inv .size, c .before .loop2 .inv .fits, c .loop2-test .taken)

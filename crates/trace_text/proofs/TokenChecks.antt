@@ -49,16 +49,20 @@ unfolding putsOut shares
 puts-nothing outs t from to e = any-none _ to (λ k l. rw (no-tokens t e) (and-false (leb from k)))
 
 -- ---- the tests of a line, where an array has what each line puts out
+-- what line k puts out, by the array
+abbrev pub outsIn : List Tokens → ℕ → List ℕ
+outsIn all = λ k. tokensOf (getD all k noTokens)
+
 module _ (t : Trace) (all : List Tokens) (same : (k : ℕ) → k < t .len → getD all k noTokens ≡ eventAt (eventsOf t) k .head .outs) where
   outs-same : (to : ℕ) → to ≤ t .len → (k : ℕ) → k < to → tokensOf (getD all k noTokens) ≡ outsAt (eventsOf t) k
   outs-same to h k l = ap tokensOf (same k (omega arith))
 
   module _ (j : ℕ) (within : j < t .len) {r : Bool} where
-    pub twice-test : r ≡ putsOut (λ k. tokensOf (getD all k noTokens)) (tokensOf (getD (t .events) j noEvent .head .outs)) 0 j → r ≡ twice (eventsOf t) j
+    pub twice-test : r ≡ putsOut (outsIn all) (tokensOf (getD (t .events) j noEvent .head .outs)) 0 j → r ≡ twice (eventsOf t) j
     unfolding twice
     twice-test e = rw (event-at t j within) (e ∙ puts-same _ _ 0 (outsAt (eventsOf t)) j (outs-same j (omega arith)))
 
-    pub early-test : t .len ≤ length (t .events) → r ≡ putsOut (λ k. tokensOf (getD all k noTokens)) (tokensOf (getD (t .events) j noEvent .head .ins)) j (t .len)
+    pub early-test : t .len ≤ length (t .events) → r ≡ putsOut (outsIn all) (tokensOf (getD (t .events) j noEvent .head .ins)) j (t .len)
         → r ≡ takenEarly (eventsOf t) j
     unfolding takenEarly
     early-test fits e = rw (event-at t j within, length-events t fits) (e ∙ puts-same _ _ j (outsAt (eventsOf t)) (t .len) (outs-same (t .len) (omega arith)))

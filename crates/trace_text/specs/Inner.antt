@@ -1,12 +1,20 @@
 -- Inner: what parts of the code answer.
 use mathlib.Core.List.{List}
 use mathlib.Core.Logic.{inr}
+use mathlib.Core.Path.{_≡_}
+use Prim.Native.Nat.{ℕ, _≤_}
 use lib.ListN.{length}
 use Rattle.basics.specs.Searches.{lowest}
 use Rattle.refusals.specs.Checks.{Checked, _▹_, refuseAt, outcomeOf}
-use Rattle.trace_events.specs.Events.{eventsOf}
-use Rattle.trace_text.specs.Types.{Refusal, Event, TraceRead}
-use Rattle.trace_text.specs.TraceText.{twice, takenEarly}
+use Rattle.trace_events.specs.Events.{tokensOf, eventsOf}
+use Rattle.trace_text.specs.Types.{Refusal, Event, Tokens, TraceRead}
+use Rattle.trace_text.specs.TraceText.{putsOut, twice, takenEarly}
+
+-- the search for the tokens in the lines from `from` on and before `to` may end at `end`: it tells the same
+pub record SearchEnd (tokens : Tokens) (from to end : ℕ) : Type 0 where
+  pub starts : from ≤ end
+  pub ends : end ≤ to
+  pub enough : (outs : ℕ → List ℕ) → putsOut outs (tokensOf tokens) from end ≡ putsOut outs (tokensOf tokens) from to
 
 -- 7, then 8, of events that are read
 unfoldable pub checkTokens : List Event → Checked (List Event)

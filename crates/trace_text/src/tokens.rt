@@ -8,10 +8,9 @@ ghost use mathlib.Core.Path.{_≡_};
 ghost use mathlib.Core.Bool.{cond};
 ghost use Prim.Native.Nat.{ℕ, _<_, _≤_};
 ghost use lib.ListN.{getD};
-ghost use Rattle.trace_events.specs.Events.{tokensOf, eventsOf, eventAt, noTokens};
+ghost use Rattle.trace_events.specs.Events.{eventsOf, eventAt, noTokens};
 ghost use Rattle.refusals.specs.Checks.{outcomeOf};
-ghost use Rattle.trace_text.specs.TraceText.{putsOut};
-ghost use Rattle.trace_text.specs.Inner.{checkTokens};
+ghost use Rattle.trace_text.specs.Inner.{SearchEnd, checkTokens};
 
 // What each line puts out: a small array, so that the searches copy no events.
 fn all_outs(t: Trace) -> [Tokens; 256]
@@ -29,21 +28,15 @@ fn all_outs(t: Trace) -> [Tokens; 256]
     all
 }
 
-// Some line from `from` on and before `to` puts out one of the tokens.
-fn puts_out(all: [Tokens; 256], tokens: Tokens, from: usize, to: usize) -> bool
-    requires { ⌜ (from ≤ to) × (to ≤ 256) ⌝ }
-    ensures { λ r. ⌜ r ≡ putsOut (λ k. tokensOf (getD all k noTokens)) (tokensOf tokens) from to ⌝ }
+// Where the search for the tokens in the lines from `from` on and before `to` ends: where it starts if there are none.
+fn search_end(tokens: Tokens, from: usize, to: usize) -> usize
+    requires { ⌜ from ≤ to ⌝ }
+    ensures { λ r. ⌜ SearchEnd tokens from to r ⌝ }
 {
     if tokens.count == 0 {
-        return false;
+        return from;
     }
-    let mut found = false;
-    for k in from..to {
-        let outs = all[k];
-        let shared = tokens.shares(outs);
-        found = found | shared;
-    }
-    found
+    to
 }
 
 fn refused_if(found: bool, refusal: Refusal) -> Outcome
@@ -56,7 +49,7 @@ fn refused_if(found: bool, refusal: Refusal) -> Outcome
 }
 
 // The lowest line that puts out a token which an earlier line puts out; then the lowest that takes in a token which this or a later
-// line puts out.
+// line puts out. The searches stand here, since a call would copy the array at each line.
 pub(crate) fn check_tokens(t: Trace) -> Outcome
     requires { ⌜ t .len ≤ 256 ⌝ }
     ensures { λ r. ⌜ outcomeOf r (eventsOf t) ≡ checkTokens (eventsOf t) ⌝ }
@@ -68,10 +61,24 @@ pub(crate) fn check_tokens(t: Trace) -> Outcome
     for k in 0..n {
         let event = t.events[k];
         let outs = event.head.outs;
-        let ins = event.head.ins;
-        let twice_here = refused_if(puts_out(all, outs, 0, k), Refusal::TokenTwice(k));
-        let early_here = refused_if(puts_out(all, ins, k, n), Refusal::TokenTooEarly(k));
+        let mut again = false;
+        let end = search_end(outs, 0, k);
+        for i in 0..end {
+            let others = all[i];
+            let shared = outs.shares(others);
+            again = again | shared;
+        }
+        let twice_here = refused_if(again, Refusal::TokenTwice(k));
         twice = first_of(twice, twice_here);
+        let ins = event.head.ins;
+        let mut later = false;
+        let end = search_end(ins, k, n);
+        for i in k..end {
+            let others = all[i];
+            let shared = ins.shares(others);
+            later = later | shared;
+        }
+        let early_here = refused_if(later, Refusal::TokenTooEarly(k));
         early = first_of(early, early_here);
     }
     first_of(twice, early)

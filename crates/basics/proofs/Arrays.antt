@@ -3,10 +3,11 @@
 use mathlib.Core.Path.{_≡_, sym, ap, _∙_, subst}
 use mathlib.Core.List.{List, [], _∷_, _++_, map, append-nil}
 use Prim.Native.Nat.{ℕ, suc, _+_, _≤_, _<_}
+use native.Mathlib.Decide.{ℕ-discrete}
 use native.Mathlib.Numerals.{add-one}
 use native.Mathlib.Omega.{arith}
 use lib.ListN.{length, take, drop, getD, set, drop-of-length-le, length-map}
-use lib.Seq.{take-suc, take-suc-set, slice-cons, length-take-le, take-take, append-snoc}
+use lib.Seq.{take-suc, take-suc-set, slice-cons, length-take-le, take-take, append-snoc, getD-set-same, getD-set-other}
 
 module _ {A : Type 0} where
   -- the element at i, taken off what is left
@@ -56,3 +57,9 @@ module _ {A B : Type 0} (f : List A → List B) (l : List A) (n i : ℕ) (out wh
 -- one element more at the end of the first k
 pub pushed : {A : Type 0} (l : List A) (k : ℕ) (y : A) → k < length l → take (k + 1) (set l k y) ≡ take k l ++ (y ∷ [])
 pushed l k y h = ap (λ j. take j (set l k y)) (add-one k) ∙ take-suc-set l k y h
+
+-- an array that holds f i at each i below k, and one place more
+pub noted-more : {A : Type 0} (f : ℕ → A) (d : A) (l : List A) (k : ℕ) {x : A} → k < length l → x ≡ f k → ((i : ℕ) → i < k → getD l i d ≡ f i)
+    → (i : ℕ) → i < k + 1 → getD (set l k x) i d ≡ f i
+noted-more f d l k {x} room e h i m =
+    elim (ℕ-discrete i k) [ yes u ↦ rw (u, getD-set-same l k x d room) e | no ne ↦ rw (getD-set-other l k i x d ne) (h i (omega arith)) ]

@@ -68,6 +68,11 @@ pub or-cases : {G : Type 0} (x y : Bool) → (x || y) ≡ true → (x ≡ true �
 or-cases true y e f g = f refl
 or-cases false y e f g = g e
 
+-- the same either way
+pub cond-idle : {A : Type 0} (b : Bool) (x : A) → x ≡ cond b x x
+cond-idle true x = refl
+cond-idle false x = refl
+
 pub cond-same {ℓ} : {A : Type ℓ} (p : Bool) (x y z : A) → cond p x (cond p y z) ≡ cond p x z
 cond-same true x y z = refl
 cond-same false x y z = refl

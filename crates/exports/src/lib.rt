@@ -43,12 +43,12 @@ pub extern "C" fn gellunka_replay<'a>(
     tables: &'a [u8],
     order: &[u8],
     out: &mut [u8],
-    replies: &mut [u8],
+    answered: &mut [u8],
 ) -> Replayed
-    ensures { λ r. ⌜ r ≡ replayAs (now (trace .entry)) (now (tables .entry)) (replayAnswer (replayed (now (trace .entry)) (now (tables .entry)) (now (order .entry)) (length (now (out .entry))) (length (now (replies .entry))))) ⌝ }
-    ensures { λ _. ⌜ now (out .exit) ≡ written (tablesOut (replayed (now (trace .entry)) (now (tables .entry)) (now (order .entry)) (length (now (out .entry))) (length (now (replies .entry))))) (now (out .entry)) ⌝ }
-    ensures { λ _. ⌜ now (replies .exit) ≡ written (answersOut (replayed (now (trace .entry)) (now (tables .entry)) (now (order .entry)) (length (now (out .entry))) (length (now (replies .entry))))) (now (replies .entry)) ⌝ }
+    ensures { λ r. ⌜ r ≡ replayAs (now (trace .entry)) (now (tables .entry)) (replayAnswer (replayed (now (trace .entry)) (now (tables .entry)) (now (order .entry)) (length (now (out .entry))) (length (now (answered .entry))))) ⌝ }
+    ensures { λ _. ⌜ now (out .exit) ≡ written (tablesOut (replayed (now (trace .entry)) (now (tables .entry)) (now (order .entry)) (length (now (out .entry))) (length (now (answered .entry))))) (now (out .entry)) ⌝ }
+    ensures { λ _. ⌜ now (answered .exit) ≡ written (answersOut (replayed (now (trace .entry)) (now (tables .entry)) (now (order .entry)) (length (now (out .entry))) (length (now (answered .entry))))) (now (answered .entry)) ⌝ }
 {
-    let answer = replay_call::replay(trace, tables, order, out, replies);
+    let answer = replay_call::replay(trace, tables, order, out, answered);
     replay_as(trace, tables, answer)
 }

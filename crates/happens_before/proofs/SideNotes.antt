@@ -1,13 +1,10 @@
 -- The sides of the events so far, as the pass over the events notes them. Assumes nothing.
 use Prim.Native.Nat.{ℕ, _+_, _<_, _≤_}
-use native.Mathlib.Decide.{ℕ-discrete}
 use native.Mathlib.Numerals.{add-one}
-use native.Mathlib.Omega.{arith}
 use mathlib.Core.Path.{_≡_, sym, ap₂, _∙_}
 use mathlib.Core.Bool.{Bool, true, false, or-false}
 use mathlib.Core.List.{List}
-use lib.ListN.{length, getD, set}
-use lib.Seq.{getD-set-same, getD-set-other}
+use lib.ListN.{length, getD}
 use Rattle.trace_events.specs.Events.{eventsOf, noEvent}
 use Rattle.trace_events.specs.Inner.{noSide, sideOf, sideStep, mayPassTo}
 use Rattle.trace_events.proofs.SideLaws.{by-barrier, by-neither}
@@ -23,10 +20,6 @@ sideAt t k = sideOf (getD (t .events) k noEvent .head) (getD (t .events) k noEve
 -- the sides of the first n events are noted
 abbrev pub Noted : Trace → ℕ → List Side → Type 0
 Noted t n sides = (k : ℕ) → k < n → getD sides k noSide ≡ sideAt t k
-
-pub noted-more : (t : Trace) (n : ℕ) (sides : List Side) {s : Side} → n < length sides → s ≡ sideAt t n → Noted t n sides → Noted t (n + 1) (set sides n s)
-noted-more t n sides {s} l e f k m =
-    elim (ℕ-discrete k n) [ yes u ↦ rw (u, getD-set-same sides n s noSide l) e | no ne ↦ rw (getD-set-other sides n k s noSide ne) (f k (omega arith)) ]
 
 -- what the sides tell of a step from k to j
 module _ (t : Trace) (fits : t .len ≤ length (t .events)) (sides : List Side) (j k : ℕ) (f : Noted t j sides) (l : k < j) (m : j < t .len) {s : Side} (e : s ≡ sideAt t j) where

@@ -24,10 +24,10 @@ fn run_order(
     start: Rows,
     order: &[u8],
     out: &mut [u8],
-    replies: &mut [u8],
+    answered: &mut [u8],
 ) -> ReplayAnswer
     requires { ⌜ (t .len ≤ 256) × (start .len ≤ 256) × SortedRows (rowsOf start) × (length (now order) ≤ 256) ⌝ }
-    ensures { λ r. ⌜ Leaves (ranFrom (eventsOf t) (rowsOf start) (now (order .entry)) (length (now (out .entry))) (length (now (replies .entry)))) r (now (out .entry)) (now (out .exit)) (now (replies .entry)) (now (replies .exit)) ⌝ }
+    ensures { λ r. ⌜ Leaves (ranFrom (eventsOf t) (rowsOf start) (now (order .entry)) (length (now (out .entry))) (length (now (answered .entry)))) r (now (out .entry)) (now (out .exit)) (now (answered .entry)) (now (answered .exit)) ⌝ }
 {
     let n = t.len;
     let ran = order_run::run(t, start, order);
@@ -36,7 +36,7 @@ fn run_order(
     if 512 < rows.len {
         return ReplayAnswer::Refused(Refusal::TooManyEntries);
     }
-    write_both(rows, answers, n, out, replies)
+    write_both(rows, answers, n, out, answered)
 }
 
 // 21, 22; then the run.
@@ -45,16 +45,16 @@ fn replay_order(
     start: Rows,
     order: &[u8],
     out: &mut [u8],
-    replies: &mut [u8],
+    answered: &mut [u8],
 ) -> ReplayAnswer
     requires { ⌜ (t .len ≤ 256) × (start .len ≤ 256) × SortedRows (rowsOf start) ⌝ }
-    ensures { λ r. ⌜ Leaves (orderedFrom (eventsOf t) (rowsOf start) (now (order .entry)) (length (now (out .entry))) (length (now (replies .entry)))) r (now (out .entry)) (now (out .exit)) (now (replies .entry)) (now (replies .exit)) ⌝ }
+    ensures { λ r. ⌜ Leaves (orderedFrom (eventsOf t) (rowsOf start) (now (order .entry)) (length (now (out .entry))) (length (now (answered .entry)))) r (now (out .entry)) (now (out .exit)) (now (answered .entry)) (now (answered .exit)) ⌝ }
 {
     let earlier = happens_before::happens_before(t);
     let outcome = check_order(t, &earlier, order);
     match outcome {
         Outcome::Refused(r) => ReplayAnswer::Refused(r),
-        Outcome::Accepted => run_order(t, start, order, out, replies),
+        Outcome::Accepted => run_order(t, start, order, out, answered),
     }
 }
 

@@ -16,20 +16,20 @@ pub fn write_both(
     answers: [Kept; 256],
     n: usize,
     out: &mut [u8],
-    replies: &mut [u8],
+    answered: &mut [u8],
 ) -> ReplayAnswer
     requires { ⌜ (rows .len ≤ 512) × (n ≤ 256) ⌝ }
-    ensures { λ r. ⌜ Leaves (fittingBoth (bothTexts (rowsOf rows) (keptAt answers) n) (length (now (out .entry))) (length (now (replies .entry)))) r (now (out .entry)) (now (out .exit)) (now (replies .entry)) (now (replies .exit)) ⌝ }
+    ensures { λ r. ⌜ Leaves (fittingBoth (bothTexts (rowsOf rows) (keptAt answers) n) (length (now (out .entry))) (length (now (answered .entry)))) r (now (out .entry)) (now (out .exit)) (now (answered .entry)) (now (answered .exit)) ⌝ }
 {
     let tables_need = tables_normal::normal_length(rows);
     if out.len() < tables_need {
         return ReplayAnswer::Refused(Refusal::TablesShort(tables_need));
     }
     let answers_need = replay_answers::answers_length(answers, n);
-    if replies.len() < answers_need {
+    if answered.len() < answers_need {
         return ReplayAnswer::Refused(Refusal::AnswersShort(answers_need));
     }
     let a = tables_normal::write_normal(out, rows);
-    let b = replay_answers::write_answers(replies, answers, n);
+    let b = replay_answers::write_answers(answered, answers, n);
     ReplayAnswer::Lengths(a, b)
 }

@@ -1,7 +1,7 @@
 -- What an event does to rows in order: its own switch's table changes as is said under Flow table, all others stay, the answer is
 -- that of the tables, the order is kept and at most one row is added. Assumes nothing.
 use mathlib.Core.Path.{_≡_, refl, sym, _∙_, ap}
-use mathlib.Core.Bool.{Bool, true, false, not, cond}
+use mathlib.Core.Bool.{Bool, true, not, cond}
 use mathlib.Core.List.{List}
 use Prim.Native.Nat.{ℕ, suc, _≤_}
 use native.Mathlib.Omega.{arith}
@@ -9,7 +9,7 @@ use lib.Dec.{eqb}
 use lib.ListN.{length}
 use borrow.Author.Tests.{eqb-true}
 use Rattle.flow.specs.Entries.{sameKey}
-use Rattle.basics.proofs.Booleans.{split}
+use Rattle.basics.proofs.Booleans.{split, cond-idle}
 use Rattle.flow_table.specs.FlowTable.{entry, inside, clash, anyOf, effectOf, after, answer}
 use Rattle.flow_table.specs.Switches.{switchOf, stepOf, answerOf}
 use Rattle.rows.specs.Rows.{row, SortedRows, tableOf, tablesOf, anyRow, onSwitch}
@@ -19,10 +19,6 @@ use Rattle.rows.proofs.RowLaws.{sorted-insert-row, sorted-remove, sorted-assign
 use Rattle.rows.proofs.TablesOf.{table-insert, table-remove, table-assign, table-any}
 
 -- ---- the tables
-cond-idle : {A : Type 0} (b : Bool) (x : A) → x ≡ cond b x x
-cond-idle true x = refl
-cond-idle false x = refl
-
 module _ (v : ℕ) (rs : List Row) (s : SortedRows rs) where
   step-table : (w : ℕ) (f : Effect) → tableOf v (effectStep w f rs) ≡ cond (eqb v w) (after f (tableOf v rs)) (tableOf v rs)
   unfolding effectStep after

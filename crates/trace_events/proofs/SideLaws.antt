@@ -7,7 +7,7 @@ use native.Mathlib.Omega.{arith}
 use lib.Dec.{ltb}
 use lib.ListN.{take}
 use borrow.Author.Tests.{lt-ltb}
-use Rattle.basics.specs.Searches.{has, anyIn, shares}
+use Rattle.basics.specs.Searches.{shares}
 use Rattle.basics.proofs.Booleans.{and-cases}
 use Rattle.trace_events.specs.Types.{Operation, Tokens, Head, Event}
 use Rattle.trace_events.specs.Events.{tokensOf}

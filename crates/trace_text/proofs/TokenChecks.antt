@@ -7,13 +7,13 @@ use mathlib.Core.Option.{Option, none, some}
 use mathlib.Core.Path.{_≡_, refl, _∙_, ap}
 use native.Mathlib.Numerals.{add-one}
 use native.Mathlib.Omega.{arith}
-use borrow.Author.Tests.{le-leb, lt-leb, eqb-true, eqb-false}
-use lib.Dec.{eqb, leb}
-use lib.ListN.{length, getD, set}
-use lib.Seq.{getD-set-same, getD-set-other}
+use borrow.Author.Tests.{le-leb, lt-leb}
+use lib.Dec.{leb}
+use lib.ListN.{length, getD}
 use Rattle.trace_events.specs.Events.{tokensOf, eventsOf, eventAt, noEvent, noTokens}
 use Rattle.basics.specs.Searches.{shares, orElse, lowest}
 use Rattle.basics.proofs.Searches.{any-same, any-none}
+use Rattle.basics.proofs.Booleans.{and-false-right}
 use Rattle.trace_events.proofs.TraceLaws.{event-at, length-events}
 use Rattle.refusals.specs.Checks.{_▹_, refuseAt, outcomeOf, firstOf}
 use Rattle.trace_text.specs.Types.{Refusal, Event, Tokens, Trace, Outcome}
@@ -21,10 +21,6 @@ use Rattle.trace_text.specs.TraceText.{outsAt, putsOut, twice, takenEarl
 use Rattle.trace_text.specs.Inner.{checkTokens}
 
 -- ---- some line puts out one of the tokens
-and-false : (b : Bool) → (b && false) ≡ false
-and-false true = refl
-and-false false = refl
-
 module _ (outs : ℕ → List ℕ) (tokens : List ℕ) (from : ℕ) where
   pub puts-none : false ≡ putsOut outs tokens from from
   unfolding putsOut
@@ -46,7 +42,7 @@ no-tokens t e = rw e
 
 pub puts-nothing : (outs : ℕ → List ℕ) (t : Tokens) (from to : ℕ) → t .count ≡ 0 → false ≡ putsOut outs (tokensOf t) from to
 unfolding putsOut shares
-puts-nothing outs t from to e = any-none _ to (λ k l. rw (no-tokens t e) (and-false (leb from k)))
+puts-nothing outs t from to e = any-none _ to (λ k l. rw (no-tokens t e) (and-false-right (leb from k) refl))
 
 -- ---- the tests of a line, where an array has what each line puts out
 -- what line k puts out, by the array
@@ -66,18 +62,6 @@ module _ (t : Trace) (all : List Tokens) (same : (k : ℕ) → k < t .len → ge
         → r ≡ takenEarly (eventsOf t) j
     unfolding takenEarly
     early-test fits e = rw (event-at t j within, length-events t fits) (e ∙ puts-same _ _ j (outsAt (eventsOf t)) (t .len) (outs-same (t .len) (omega arith)))
-
--- what each line puts out, up to one line more
-pub outs-more : (t : Trace) (all : List Tokens) (k : ℕ) → k < length all → k < t .len
-    → ((i : ℕ) → i < k → getD all i noTokens ≡ eventAt (eventsOf t) i .head .outs)
-    → (i : ℕ) → i < k + 1 → getD (set all k (getD (t .events) k noEvent .head .outs)) i noTokens ≡ eventAt (eventsOf t) i .head .outs
-outs-more t all k room within h i l = go (eqb i k) refl
-  where
-    go : (b : Bool) → eqb i k ≡ b → getD (set all k (getD (t .events) k noEvent .head .outs)) i noTokens ≡ eventAt (eventsOf t) i .head .outs
-    go true e = let p : i ≡ k = eqb-true i k e in rw (p, getD-set-same, event-at t k within) refl
-    go false e =
-        let q : i ≡ k → ⊥ = eqb-false i k e in
-        getD-set-other all k i _ noTokens q ∙ h i (omega arith)
 
 -- ---- the outcome of a search for the lowest line
 abbrev pub placed : (ℕ → Refusal) → Option ℕ → Outcome

@@ -8,11 +8,12 @@ use borrow.Author.Needs.{needs}
 use Rattle.trace_events.specs.Events.{eventsOf}
 use Rattle.basics.specs.Searches.{anyBelow}
 use Rattle.trace_events.proofs.TraceLaws.{length-events}
-use Rattle.basics.proofs.Arrays.{length-mapped}
+use Rattle.basics.proofs.Arrays.{length-mapped, noted-more}
 use Rattle.basics.proofs.Booleans.{was, was-false}
+use Rattle.trace_events.specs.Inner.{noSide}
 use Rattle.happens_before.specs.Inner.{member}
 use Rattle.happens_before.proofs.RowLaws.{Filled, step-at, joined, filled-at, filled-none, filled-more, filled-all}
-use Rattle.happens_before.proofs.SideNotes.{Noted, noted-more, a-step, no-step, passed-by}
+use Rattle.happens_before.proofs.SideNotes.{Noted, sideAt, a-step, no-step, passed-by}
 use Rattle.happens_before.proofs.Chains.{row-union}
 use Rattle.happens_before.specs.Causality.{through}
 use Rattle.happens_before.proofs.SetLaws.{member-none}
@@ -92,7 +93,7 @@ loop-again c =
       filled-more _ (o .loop .rows) (o .loop .j) (i2 .set) (omega arith) (o .loop .inv .3)
           (λ i. i2 .inv .1 i ∙ ap (anyBelow (through _ i _)) e ∙ sym (row-union _ i _)),
       simp length-set (o .loop .inv .4),
-      noted-more (o .before .before .args .t1) (o .loop .j) (o .loop .sides) (omega arith) (s .side .ensures) (o .loop .inv .5),
+      noted-more (sideAt (o .before .before .args .t1)) noSide (o .loop .sides) (o .loop .j) (omega arith) (s .side .ensures) (o .loop .inv .5),
     )
 
 returns : tie.Need-returns Inv-loop2 μ-loop2 Inv-loop μ-loop

@@ -1,12 +1,13 @@
 -- The invariant: the array has what the lines before k put out.
 use Prim.Native.Nat.{ℕ, _-_, _≤_, _<_}
-use mathlib.Core.Path.{_≡_, refl}
+use mathlib.Core.Path.{_≡_, refl, sym, ap}
 use native.Mathlib.Omega.{arith}
 use lib.ListN.{length, length-set, getD}
 use borrow.Author.Needs.{needs}
 use Rattle.trace_events.specs.Events.{eventsOf, eventAt, noTokens}
-use Rattle.basics.proofs.Arrays.{length-mapped}
-use Rattle.trace_text.proofs.TokenChecks.{outs-more}
+use Rattle.basics.proofs.Arrays.{length-mapped, noted-more}
+use Rattle.trace_events.proofs.TraceLaws.{event-at}
+use Rattle.trace_text.specs.Types.{Event}
 use Rattle.trace_text.proofs.tokens.all_outs.Statement.{statement}
 use Rattle.trace_text.proofs.tokens.all_outs.Tie as tie
 
@@ -22,11 +23,13 @@ loop-holds c = (omega arith, search (needs, length-mapped), refl, λ i l. absurd
 
 loop-again : tie.Need-loop-again Inv-loop μ-loop
 loop-again c =
-    let l = c .before .before .before .loop in (
+    let l = c .before .before .before .loop in
+    let t = c .before .before .before .before .before .args .t1 in (
       omega arith,
       l .inv .1,
       simp length-set (l .inv .2),
-      outs-more _ (l .all) (l .k) (omega arith) (omega arith) (l .inv .3),
+      noted-more (λ i. eventAt (eventsOf t) i .head .outs) noTokens (l .all) (l .k) (omega arith)
+          (ap (λ (e : Event). e .head .outs) (sym (event-at t (l .k) (omega arith)))) (l .inv .3),
     )
 
 returns : tie.Need-returns Inv-loop μ-loop

@@ -1,6 +1,4 @@
-// Whether two operations of one switch commute.
+// Whether two events of one switch commute.
 pub mod effect;
-pub mod operation;
 
 pub use effect::commutes;
-pub use operation::commute_both;

@@ -1,3 +1,4 @@
+pub mod Reading
 pub mod PairLaws
 pub mod Members
 pub mod Theorems

@@ -5,3 +5,4 @@ pub use Rattle.trace_events.specs.declared.event.Event.{Event}
 pub use Rattle.trace_events.specs.declared.trace.Trace.{Trace}
 pub use Rattle.call_answers.specs.declared.list.Counts.{Counts}
 pub use Rattle.list_verdicts.specs.declared.verdict.Verdict.{Verdict}
+pub use Rattle.list_verdicts.specs.declared.verdict.TableUse.{TableUse}

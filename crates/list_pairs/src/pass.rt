@@ -1,6 +1,7 @@
 // One pass over the pairs of a trace: one verdict a pair.
 use crate::counts::counted;
 use crate::counts::no_counts;
+use crate::uses::all_uses;
 use call_answers::Counts;
 use list_verdicts::Verdict;
 use list_verdicts::verdict_of;
@@ -32,28 +33,30 @@ fn put_listed(list: &mut [u8], at: usize, i: u8, j: u8, v: Verdict)
     }
 }
 
-// All pairs: the four counts, and the listed pairs from the list's start. Both loops stand here, since an inner call would copy the
-// events at each turn.
+// All pairs: the four counts, and the listed pairs from the list's start. Both loops stand here, since an inner call would copy
+// what the events are at each turn.
 pub(crate) fn scan(t: Trace, rows: &[[u64; 4]; 256], list: &mut [u8]) -> Counts
     requires { ⌜ (t .len ≤ 256) × (131072 ≤ length (now list)) ⌝ }
     requires { ⌜ HappensBefore (eventsOf t) (now rows) ⌝ }
     ensures { λ r. ⌜ r ≡ countsOf (eventsOf t) ⌝ }
     ensures { λ r. ⌜ now (list .exit) ≡ sets (now (list .entry)) 0 (pairBytes (listOf (eventsOf t))) ⌝ }
 {
-    let n = t.len;
+    let uses = all_uses(t);
     let mut sum = no_counts();
-    for i in 0..n {
-        let first = t.events[i];
-        let a = first.operation;
-        for j in i + 1..n {
-            let second = t.events[j];
-            let b = second.operation;
+    let mut i: usize = 0;
+    while i < t.len {
+        let a = uses[i];
+        let mut j = i + 1;
+        while j < t.len {
+            let b = uses[j];
             let ordered = happens_before::is_before(rows, i as u8, j as u8);
             let v = verdict_of(a, b, ordered);
             put_listed(list, 2 * sum.listed, i as u8, j as u8, v);
             let next = counted(sum, v);
             sum = next;
+            j += 1;
         }
+        i += 1;
     }
     sum
 }

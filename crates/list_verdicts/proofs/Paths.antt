@@ -1,25 +1,28 @@
--- The paths through the verdict. Assumes nothing.
+-- The paths through the verdict, and the verdict by what each event is to the list. Assumes nothing.
 use mathlib.Core.Path.{_≡_, refl, sym, _∙_}
 use mathlib.Core.Bool.{Bool, true, false}
-use Rattle.flow_table.specs.FlowTable.{effectOf}
 use Rattle.commuting.specs.Commuting.{commutes}
 use Rattle.list_verdicts.specs.Kinds.{paired}
-use Rattle.list_verdicts.specs.Types.{Operation, Verdict}
-use Rattle.list_verdicts.specs.Inner.{verdictOf}
+use Rattle.list_verdicts.specs.Types.{Operation, Verdict, TableUse}
+use Rattle.list_verdicts.specs.Inner.{verdictOf, tableUse, usesPaired, verdictBy}
 
-module _ (o p : Operation) (h : Bool) {x : Bool} (e : x ≡ paired o p) where
-  pub unpaired : x ≡ false → Verdict.Unpaired ≡ verdictOf o p h
-  unfolding verdictOf
+pub verdict-by : (o p : Operation) (h : Bool) → verdictBy (tableUse o) (tableUse p) h ≡ verdictOf o p h
+unfolding verdictBy verdictOf tableUse usesPaired paired
+verdict-by o p h = refl
+
+module _ (a b : TableUse) (h : Bool) {x : Bool} (e : x ≡ usesPaired a b) where
+  pub unpaired : x ≡ false → Verdict.Unpaired ≡ verdictBy a b h
+  unfolding verdictBy
   unpaired f = rw (sym e ∙ f) refl
 
-  pub is-ordered : x ≡ true → h ≡ true → Verdict.Ordered ≡ verdictOf o p h
-  unfolding verdictOf
+  pub is-ordered : x ≡ true → h ≡ true → Verdict.Ordered ≡ verdictBy a b h
+  unfolding verdictBy
   is-ordered f g = rw (sym e ∙ f, g) refl
 
-  pub is-commuting : {m : Bool} → x ≡ true → h ≡ false → m ≡ commutes (effectOf o) (effectOf p) → m ≡ true → Verdict.Commuting ≡ verdictOf o p h
-  unfolding verdictOf
+  pub is-commuting : {m : Bool} → x ≡ true → h ≡ false → m ≡ commutes (a .effect) (b .effect) → m ≡ true → Verdict.Commuting ≡ verdictBy a b h
+  unfolding verdictBy
   is-commuting f g d k = rw (sym e ∙ f, g, sym d ∙ k) refl
 
-  pub is-listed : {m : Bool} → x ≡ true → h ≡ false → m ≡ commutes (effectOf o) (effectOf p) → m ≡ false → Verdict.Listed ≡ verdictOf o p h
-  unfolding verdictOf
+  pub is-listed : {m : Bool} → x ≡ true → h ≡ false → m ≡ commutes (a .effect) (b .effect) → m ≡ false → Verdict.Listed ≡ verdictBy a b h
+  unfolding verdictBy
   is-listed f g d k = rw (sym e ∙ f, g, sym d ∙ k) refl

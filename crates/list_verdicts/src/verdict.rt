@@ -1,11 +1,12 @@
 // The verdict on one pair of events.
-use commuting_pairs::commute_both;
+use commuting_pairs::commutes;
+use flow_table::Effect;
 use flow_table::Operation;
+use flow_table::effect_of;
 use trace_events::switch_of;
 ghost use mathlib.Core.Path.{_≡_};
 ghost use Rattle.flow_table.specs.Switches.{usesTable};
-ghost use Rattle.list_verdicts.specs.Kinds.{paired};
-ghost use Rattle.list_verdicts.specs.Inner.{verdictOf};
+ghost use Rattle.list_verdicts.specs.Inner.{tableUse, usesPaired, verdictBy};
 
 // No pair; or a pair that is ordered, commuting or listed.
 pub enum Verdict {
@@ -13,6 +14,14 @@ pub enum Verdict {
     Ordered,
     Commuting,
     Listed,
+}
+
+// What an event is to the list: whether it uses a table, of which switch, and what it does there. Worked out once an event, not once a
+// pair.
+pub struct TableUse {
+    pub uses: bool,
+    pub switch: u8,
+    pub effect: Effect,
 }
 
 fn uses_table(o: Operation) -> bool
@@ -26,16 +35,26 @@ fn uses_table(o: Operation) -> bool
     }
 }
 
-// Two table operations of one switch.
-fn is_paired(a: Operation, b: Operation) -> bool
-    ensures { λ r. ⌜ r ≡ paired a b ⌝ }
+pub fn use_of(o: Operation) -> TableUse
+    ensures { λ r. ⌜ r ≡ tableUse o ⌝ }
 {
-    uses_table(a) & (uses_table(b) & (switch_of(a) == switch_of(b)))
+    TableUse {
+        uses: uses_table(o),
+        switch: switch_of(o),
+        effect: effect_of(o),
+    }
 }
 
-// Of two operations, where `ordered` says whether the first event happens before the second. What costs most comes last.
-pub fn verdict_of(a: Operation, b: Operation, ordered: bool) -> Verdict
-    ensures { λ r. ⌜ r ≡ verdictOf a b «ordered» ⌝ }
+// Two table events of one switch.
+fn is_paired(a: TableUse, b: TableUse) -> bool
+    ensures { λ r. ⌜ r ≡ usesPaired a b ⌝ }
+{
+    a.uses & (b.uses & (a.switch == b.switch))
+}
+
+// Of two events, where `ordered` says whether the first happens before the second. What costs most comes last.
+pub fn verdict_of(a: TableUse, b: TableUse, ordered: bool) -> Verdict
+    ensures { λ r. ⌜ r ≡ verdictBy a b «ordered» ⌝ }
 {
     if !is_paired(a, b) {
         return Verdict::Unpaired;
@@ -43,7 +62,9 @@ pub fn verdict_of(a: Operation, b: Operation, ordered: bool) -> Verdict
     if ordered {
         return Verdict::Ordered;
     }
-    if commute_both(a, b) {
+    let v = a.effect;
+    let w = b.effect;
+    if commutes(v, w) {
         return Verdict::Commuting;
     }
     Verdict::Listed

@@ -6,46 +6,49 @@ use mathlib.Core.List.{List}
 use lib.ListN.{length}
 use lib.Seq.{sets, length-sets}
 use borrow.Author.Needs.{needs}
-use Rattle.trace_events.specs.Events.{eventsOf}
-use Rattle.trace_events.proofs.TraceLaws.{length-events, event-at}
+use Rattle.trace_events.specs.Events.{eventsOf, eventAt}
+use Rattle.trace_events.proofs.TraceLaws.{length-events}
 use Rattle.basics.proofs.Arrays.{length-mapped}
-use Rattle.list_pairs.specs.Types.{Event}
+use Rattle.list_pairs.proofs.Reading.{getD-either}
+use Rattle.list_pairs.specs.Types.{TableUse}
 use Rattle.list_pairs.specs.List.{test, Pair, pairBytes, ofKind}
 use Rattle.list_verdicts.specs.Kinds.{listed, Kind}
-use Rattle.list_verdicts.specs.Inner.{verdictOf}
+use Rattle.list_verdicts.specs.Inner.{noUse, verdictBy}
+use Rattle.list_verdicts.proofs.Paths.{verdict-by}
 use Rattle.list_pairs.specs.Inner.{countOf}
 use Rattle.list_pairs.proofs.PairLaws.{pairsOf, row-start, row-most, small-of, count-turn, bytes-turn, rowsBelow, below-most, below-count, below-bytes, all-rows, counted}
 use Rattle.list_pairs.proofs.pass.scan.Statement.{statement}
 use Rattle.list_pairs.proofs.pass.scan.Tie as tie
 
 abbrev Inv-loop2 : tie.InvT-loop2
-Inv-loop2 rows list₀ t n sum₀ i a j₀ list sum j =
+Inv-loop2 t rows list₀ uses sum₀ i a j₀ list sum j =
     (i < j)
     × (j ≤ t .len)
     × ((k : Kind) → countOf k sum ≡ countOf k sum₀ + length (pairsOf k (eventsOf t) i j))
     × (list ≡ sets list₀ (2 * sum₀ .listed) (pairBytes (pairsOf listed (eventsOf t) i j)))
 
 abbrev μ-loop2 : tie.MeasureT-loop2
-μ-loop2 rows list₀ t n sum₀ i a j₀ list sum j = t .len - j
+μ-loop2 t rows list₀ uses sum₀ i a j₀ list sum j = t .len - j
 
 abbrev Inv-loop : tie.InvT-loop
-Inv-loop rows list₀ t n sum₀ i₀ list sum i =
+Inv-loop t rows list₀ uses sum₀ i₀ list sum i =
     (i ≤ t .len)
     × (length (t .events) ≡ 256)
     × ((k : Kind) → countOf k sum ≡ length (rowsBelow k (eventsOf t) (t .len) i))
     × (list ≡ sets list₀ 0 (pairBytes (rowsBelow listed (eventsOf t) (t .len) i)))
+    × (length uses ≡ 256)
 
 abbrev μ-loop : tie.MeasureT-loop
-μ-loop rows list₀ t n sum₀ i₀ list sum i = t .len - i
+μ-loop t rows list₀ uses sum₀ i₀ list sum i = t .len - i
 
 loop-holds : tie.Need-loop-holds Inv-loop2 μ-loop2 Inv-loop μ-loop
-loop-holds c = (omega arith, search (needs, length-mapped), c .no-counts .ensures, refl)
+loop-holds c = (omega arith, search (needs, length-mapped), c .no-counts .ensures, refl, c .before .all-uses .ensures .0)
 
 loop2-holds : tie.Need-loop2-holds Inv-loop2 μ-loop2 Inv-loop μ-loop
 loop2-holds c =
-    let at-loop = c .before .before in
-    let at-start = at-loop .before .before .before in
-    let es = eventsOf (at-start .args .t1) in
+    let at-loop = c .before .before .before in
+    let at-start = at-loop .before .before .before .before in
+    let es = eventsOf (at-start .args .t) in
     let i = at-loop .loop .i in (
       omega arith,
       omega arith,
@@ -54,24 +57,24 @@ loop2-holds c =
     )
 
 -- no count is more than there are pairs so far
-most : (q : tie.At-loop2 Inv-loop2 μ-loop2 Inv-loop μ-loop) (k : Kind) → countOf k (q .loop2 .sum) ≤ q .before .before .before .loop .i * 256 + q .loop2 .j
+most : (q : tie.At-loop2 Inv-loop2 μ-loop2 Inv-loop μ-loop) (k : Kind) → countOf k (q .loop2 .sum) ≤ q .before .before .before .before .loop .i * 256 + q .loop2 .j
 most q k =
-    let l = q .before .before .before .loop in
-    let s = q .before .before .before .before .before .before in
-    let es = eventsOf (s .args .t1) in
-    omega (arith, q .loop2 .inv .2 k, l .inv .2 k, below-most k es (s .args .t1 .len) (l .i) (s .pre .0 .0), row-most (test k es) (l .i) (q .loop2 .j))
+    let l = q .before .before .before .before .loop in
+    let s = q .before .before .before .before .before .before .before .before in
+    let es = eventsOf (s .args .t) in
+    omega (arith, q .loop2 .inv .2 k, l .inv .2 k, below-most k es (s .args .t .len) (l .i) (s .pre .0 .0), row-most (test k es) (l .i) (q .loop2 .j))
 
 mul-put-listed : tie.Need-mul-put-listed Inv-loop2 μ-loop2 Inv-loop μ-loop
 mul-put-listed c =
-    let at-place-6 = c .before .before .before .before .before .before in
-    omega (arith, most (at-place-6) listed)
+    let at-loop2 = c .before .before .before .before .before .before .before in
+    omega (arith, most at-loop2 listed)
 
 put-listed-requires : tie.Need-put-listed-requires Inv-loop2 μ-loop2 Inv-loop μ-loop
 put-listed-requires c κs =
-    let q = c .before .before .before .before .before .before in
-    let l = q .before .before .before .loop in
-    let s = q .before .before .before .before .before .before in
-    let es = eventsOf (s .args .t1) in
+    let q = c .before .before .before .before .before .before .before in
+    let l = q .before .before .before .before .loop in
+    let s = q .before .before .before .before .before .before .before .before in
+    let es = eventsOf (s .args .t) in
     omega (
       arith,
       most q listed,
@@ -79,30 +82,34 @@ put-listed-requires c κs =
       ap length (q .loop2 .inv .3),
       length-sets (l .list) (2 * l .sum .listed) (pairBytes (pairsOf listed es (l .i) (q .loop2 .j))),
       ap length (l .inv .3),
-      length-sets (s .args .list .now) 0 (pairBytes (rowsBelow listed es (s .args .t1 .len) (l .i))),
+      length-sets (s .args .list .now) 0 (pairBytes (rowsBelow listed es (s .args .t .len) (l .i))),
     )
 
 counted-requires : tie.Need-counted-requires Inv-loop2 μ-loop2 Inv-loop μ-loop
 counted-requires c κs =
-    let q = c .before .before .before .before .before .before .before .before .before in
-    let s = q .before .before .before .before .before .before in
+    let q = c .before .before .before .before .before .before .before .before .before .before in
+    let s = q .before .before .before .before .before .before .before .before in
     small-of (q .loop2 .sum) (λ k. omega (arith, most q k, s .pre .0))
 
 loop2-again : tie.Need-loop2-again Inv-loop2 μ-loop2 Inv-loop μ-loop
 loop2-again c =
     let at-put-listed = c .before .before .before in
     let v = at-put-listed .before .before .before in
-    let q = v .before .before .before .before in
+    let q = v .before .before .before .before .before in
     let m = q .loop2 in
-    let l = q .before .before .before .loop in
-    let s = q .before .before .before .before .before .before in
-    let t = s .args .t1 in
+    let l = q .before .before .before .before .loop in
+    let s = q .before .before .before .before .before .before .before .before in
+    let t = s .args .t in
     let i = l .i in
     let es = eventsOf t in
+    let w = q .before .before .before .before .before .before .all-uses in
     let before-is = v .before .is-before .ensures ∙ s .pre .1 i (m .j) in
     let verdict =
     v .verdict-of .ensures
-    ∙ ap₂ (λ (x y : Event). verdictOf (x .operation) (y .operation) (v .before .is-before .result)) (sym (event-at t i (omega (arith, s .pre .0)))) (sym (event-at t (m .j) (omega arith))) in (
+    ∙ ap₂ (λ (x y : TableUse). verdictBy x y (v .before .is-before .result))
+    (getD-either (w .result) i _ noUse (omega (arith, w .ensures .0, s .pre .0)) ∙ w .ensures .1 i (omega (arith, s .pre .0)))
+    (getD-either (w .result) (m .j) _ noUse (omega (arith, w .ensures .0, s .pre .0)) ∙ w .ensures .1 (m .j) (omega arith))
+    ∙ verdict-by (eventAt es i .operation) (eventAt es (m .j) .operation) (v .before .is-before .result) in (
       omega arith,
       omega arith,
       λ k. count-turn es i (m .j) (m .inv .0) before-is verdict k _ _ _ (c .counted .ensures k) (m .inv .2 k),
@@ -111,11 +118,11 @@ loop2-again c =
 
 loop-again : tie.Need-loop-again Inv-loop2 μ-loop2 Inv-loop μ-loop
 loop-again c =
-    let at-loop = c .before .before .before .before in
-    let at-start = at-loop .before .before .before in
-    let m = c .before .loop2 in
+    let at-loop = c .before .before .before .before .before .before in
+    let at-start = at-loop .before .before .before .before in
+    let m = c .before .before .loop2 in
     let l = at-loop .loop in
-    let t = at-start .args .t1 in
+    let t = at-start .args .t in
     let es = eventsOf t in
     let e : m .j ≡ t .len = omega arith in (
       omega arith,
@@ -123,16 +130,17 @@ loop-again c =
       λ k. below-count k es (t .len) (l .i) _ _ (m .inv .2 k ∙ ap (λ (n : ℕ). countOf k (l .sum) + length (pairsOf k es (l .i) n)) e) (l .inv .2 k),
       below-bytes es (t .len) (l .i) _ _ _ (l .sum .listed) (l .inv .2 listed) (l .inv .3)
           (m .inv .3 ∙ ap (λ (n : ℕ). sets (l .list) (2 * l .sum .listed) (pairBytes (pairsOf listed es (l .i) n))) e),
+      l .inv .4,
     )
 
 same-length : tie.Need-same-length Inv-loop2 μ-loop2 Inv-loop μ-loop
-same-length c = ap length (c .before .loop .inv .3) ∙ simp length-sets
+same-length c = ap length (c .before .before .loop .inv .3) ∙ simp length-sets
 
 returns : tie.Need-returns Inv-loop2 μ-loop2 Inv-loop μ-loop
 returns c =
-    let s = c .before .before .before .before in
-    let l = c .before .loop in
-    let t = s .args .t1 in
+    let s = c .before .before .before .before .before .before in
+    let l = c .before .before .loop in
+    let t = s .args .t in
     let size : length (eventsOf t) ≡ t .len = length-events t (omega (arith, s .pre .0)) in
     let e : l .i ≡ t .len = omega arith in (
       counted (eventsOf t) (l .sum)
@@ -149,7 +157,7 @@ scan-spec =
     Inv-loop2
     μ-loop2
     Inv-loop
-    μ-loop (λ c κs. search needs)
+    μ-loop (λ c κs. search needs) (λ c κs. search needs)
     loop-holds (λ c. omega arith) (λ c. omega arith) (λ c. omega arith)
     loop2-holds (λ c. omega arith) (λ c. omega arith) (λ c. omega arith) (λ c. omega arith) (λ c κs. search needs) (λ c κs. search needs)
     mul-put-listed (λ c. omega arith) (λ c. omega arith)

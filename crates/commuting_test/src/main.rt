@@ -180,7 +180,9 @@ fn operation(digits: u32) -> TableOperation {
 }
 
 fn say(text: &[u8]) {
-    io::write_all(STDOUT_FILENO, text);
+    if !io::write_all(STDOUT_FILENO, text) {
+        os::fail(b"standard output");
+    }
 }
 
 fn say_word(word: u8) {
@@ -206,7 +208,9 @@ fn say_match(m: u8) {
 
 fn say_number(before: &[u8], n: u8) {
     say(before);
-    io::print_decimal(STDOUT_FILENO, n as u64);
+    let mut digits = [0u8; 20];
+    let k = io::decimal(n as u64, &mut digits);
+    say(&digits[..k]);
 }
 
 // The operation with the fields that it has.

@@ -69,7 +69,9 @@ fn sample(i: usize) -> Match
 }
 
 fn say(text: &[u8]) {
-    io::write_all(STDOUT_FILENO, text);
+    if !io::write_all(STDOUT_FILENO, text) {
+        os::fail(b"standard output");
+    }
 }
 
 fn end_line() {

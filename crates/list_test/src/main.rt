@@ -1,5 +1,4 @@
 // Prints the report on each trace text of its data files. What must come out is in the file `stdout`.
-use libc::STDOUT_FILENO;
 
 // The files 000 and on: the worked lines and no events; each refusal; barriers, messages and chains through tokens; pairs that commute or
 // do not; 256 events; traces drawn at random; from 047 on barriers and chains again, every two operations, many switches and events.
@@ -8,7 +7,7 @@ const CASES: u8 = 69;
 fn print_report(trace: &[u8]) {
     let mut out = list_report::room();
     let n = list_report::report(trace, &mut out);
-    io::write_all(STDOUT_FILENO, text_lines::front(&out, n));
+    program_output::write(text_lines::front(&out, n));
 }
 
 fn read_file(path: &[u8]) {
@@ -21,9 +20,9 @@ fn read_file(path: &[u8]) {
 }
 
 fn run(path: &[u8]) {
-    io::write_all(STDOUT_FILENO, b"trace ");
-    io::write_all(STDOUT_FILENO, path);
-    io::write_all(STDOUT_FILENO, b"\n");
+    program_output::write(b"trace ");
+    program_output::write(path);
+    program_output::end_line();
     read_file(path);
 }
 

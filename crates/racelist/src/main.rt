@@ -1,20 +1,14 @@
 // Reads a trace from standard input, and writes its races and their counts, or what is refused, to standard output.
+use libc::STDERR_FILENO;
 use libc::STDIN_FILENO;
-use libc::STDOUT_FILENO;
 ghost use mathlib.Core.Path.{_≡_};
 ghost use lib.ListN.{length};
-
-fn write(report: &[u8]) {
-    if !io::write_all(STDOUT_FILENO, report) {
-        os::fail(b"standard output");
-    }
-}
 
 // Room for all that is printed of any trace.
 fn answer_in_full(trace: &[u8]) {
     let mut out = list_report::room();
     let n = list_report::report(trace, &mut out);
-    write(&out[..n]);
+    program_output::write(&out[..n]);
 }
 
 // Room for the report on a short trace, but for the longest lists.
@@ -30,7 +24,7 @@ fn answer(trace: &[u8]) {
         let mut out = short_room();
         let n = list_report::report(trace, &mut out);
         if n <= 16384 {
-            write(&out[..n]);
+            program_output::write(&out[..n]);
             return;
         }
     }
@@ -38,6 +32,10 @@ fn answer(trace: &[u8]) {
 }
 
 fn main() {
+    if 1 < os::arg_count() {
+        io::write_all(STDERR_FILENO, b"usage: racelist < TRACE\n");
+        return;
+    }
     let mut buf = io::large_buffer();
     let input = program_input::read_all(STDIN_FILENO, &mut buf);
     if !input.ok {

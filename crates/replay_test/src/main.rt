@@ -2,7 +2,6 @@
 // file, a line for each. What must come out is in the file `stdout`: `ops` has each operation and its answers, each on a switch of
 // its own; `small` all 120 orders of five events, and orders that are none; `full` 256 events on 256 entries.
 use call_answers::ReplayAnswer;
-use libc::STDOUT_FILENO;
 use program_input::Input;
 
 // An answer: both texts, or the refusal.
@@ -15,8 +14,8 @@ fn print_answer<'a>(
 ) {
     match a {
         ReplayAnswer::Lengths(n, m) => {
-            io::write_all(STDOUT_FILENO, text_lines::front(ends, n));
-            io::write_all(STDOUT_FILENO, text_lines::front(answers, m));
+            program_output::write(text_lines::front(ends, n));
+            program_output::write(text_lines::front(answers, m));
         }
         ReplayAnswer::Refused(e) => {
             program_output::write_refused(trace, tables, e);
@@ -83,7 +82,7 @@ fn replay_shorter<'a>(trace: &'a [u8], tables: &'a [u8], order: &[u8]) {
 fn replay_recorded<'a>(trace: &'a [u8], tables: &'a [u8]) {
     let order = order_check::recorded_order();
     let recorded = text_lines::front(&order, text_lines::count_lines(trace));
-    io::write_all(STDOUT_FILENO, b"order recorded\n");
+    program_output::write(b"order recorded\n");
     replay_order(trace, tables, recorded);
     replay_shorter(trace, tables, recorded);
 }
@@ -111,8 +110,8 @@ fn replay_texts<'a>(trace: &'a [u8], tables: &'a [u8], orders_name: &[u8]) {
 }
 
 fn replay_files(name: &[u8], trace_name: &[u8], tables_name: &[u8], orders_name: &[u8]) {
-    io::write_all(STDOUT_FILENO, b"trace ");
-    io::write_all(STDOUT_FILENO, name);
+    program_output::write(b"trace ");
+    program_output::write(name);
     program_output::end_line();
     let mut trace = io::large_buffer();
     let mut tables = io::large_buffer();

@@ -2,7 +2,6 @@
 // one for each event; left out, in the recorded order. Prints the end tables and then the answers, or what is refused.
 use call_answers::ReplayAnswer;
 use libc::STDERR_FILENO;
-use libc::STDOUT_FILENO;
 use program_input::Input;
 ghost use Rattle.io.specs.Counts.{Counts};
 
@@ -26,8 +25,9 @@ fn print_replay<'a>(trace: &'a [u8], tables: &'a [u8], order: &[u8]) {
     let a = replay_call::replay(trace, tables, order, &mut ends, &mut answers);
     match a {
         ReplayAnswer::Lengths(n, m) => {
-            io::write_all(STDOUT_FILENO, text_lines::front(&ends, n));
-            io::write_all(STDOUT_FILENO, text_lines::front(&answers, m));
+            if program_output::write(text_lines::front(&ends, n)) {
+                program_output::write(text_lines::front(&answers, m));
+            }
         }
         ReplayAnswer::Refused(e) => {
             program_output::write_refused(trace, tables, e);
@@ -64,7 +64,8 @@ fn print_texts<'a>(trace: &'a [u8], tables: &'a [u8]) {
 }
 
 fn main() {
-    if os::arg_count() < 3 {
+    let arguments = os::arg_count();
+    if (arguments < 3) | (4 < arguments) {
         io::write_all(STDERR_FILENO, b"usage: replay_trace TRACE TABLES [ORDER]\n");
         return;
     }

@@ -1,7 +1,6 @@
 // Normalises the table texts of its data files, and each accepted one again into a buffer that is a byte too short for it.
 // What must come out is in the file `stdout`.
 use call_answers::NormalAnswer;
-use libc::STDOUT_FILENO;
 
 // The numbered files: 00 to 03 the same rules in four orders; 04 no line, 05 one, 06 256 lines; 07 to 14 refusals 13, 16, 11, 12 and 14
 // by their lines; 15 to 19 address bits, and 14, 15 and 16 in their order; the rest malformed lines.
@@ -11,7 +10,7 @@ const CASES: u8 = 40;
 fn answer(tables: &[u8], a: NormalAnswer, out: &[u8]) {
     match a {
         NormalAnswer::Length(n) => {
-            io::write_all(STDOUT_FILENO, text_lines::front(out, n));
+            program_output::write(text_lines::front(out, n));
         }
         NormalAnswer::Refused(e) => {
             program_output::write_refused(b"", tables, e);
@@ -56,8 +55,8 @@ fn read_file(path: &[u8]) {
 }
 
 fn run(path: &[u8]) {
-    io::write_all(STDOUT_FILENO, b"text ");
-    io::write_all(STDOUT_FILENO, path);
+    program_output::write(b"text ");
+    program_output::write(path);
     program_output::end_line();
     read_file(path);
 }

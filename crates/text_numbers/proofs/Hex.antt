@@ -1,6 +1,6 @@
 -- A number of eight hexadecimal digits is read from its own text, and from no other.
 use Prim.Native.Nat.{ℕ, zero, suc, _+_, _-_, _*_, _/_, _%_, _^_, _≤_, _<_}
-use mathlib.Core.Bool.{Bool, true, false, cond, _&&_, and-eq-true-iff}
+use mathlib.Core.Bool.{Bool, true, false, cond, _&&_}
 use mathlib.Core.List.{List, [], _∷_, _++_, append-assoc}
 use mathlib.Core.Option.{none, some}
 use mathlib.Core.Path.{_≡_, refl, sym, _∙_}
@@ -8,7 +8,7 @@ use native.Mathlib.Decide.{decLt}
 use native.Mathlib.Nat.{pow-suc, add-zero, pow-le-pow-right, lt-of-lt-of-le}
 use native.Mathlib.Numerals.{add-one}
 use native.Mathlib.Omega.{arith}
-use borrow.Author.Tests.{lt-ltb, le-ltb, ltb-false, le-leb, lt-leb, leb-true}
+use borrow.Author.Tests.{lt-ltb, le-ltb, ltb-false, le-leb, lt-leb}
 use lib.Dec.{ltb, leb, lit≤}
 use lib.ListN.{length, getD, drop, List·getD-eq-default}
 use lib.Seq.{drop-cons, append-snoc}
@@ -16,13 +16,10 @@ use Rattle.text_numbers.specs.Number.{isDigit, hexValue, readHexDigits, 
 use Rattle.text_numbers.specs.Print.{hexDigit, hexadecimal, printHex}
 use Rattle.text_numbers.specs.Format.{Format}
 use Rattle.text_numbers.proofs.Readers.{nothing, same-value, same-place, on-cond, behind, here}
-use Rattle.text_numbers.proofs.Numbers.{digit-range}
+use Rattle.text_numbers.proofs.Numbers.{between, digit-range}
 use Rattle.text_numbers.proofs.Print.{hexadecimal-length}
 
 -- ---- digits
-pub letter-range : (b : ℕ) → (leb 97 b && leb b 102) ≡ true → (97 ≤ b) × (b ≤ 102)
-letter-range b e = let (l, h) = and-eq-true-iff (leb 97 b) (leb b 102) .0 e in (leb-true 97 b l, leb-true b 102 h)
-
 value-digit : (n : ℕ) → n < 16 → hexValue (hexDigit n) ≡ n
 unfolding isDigit hexValue hexDigit
 value-digit n h =
@@ -45,7 +42,7 @@ module _ (b : ℕ) where
       let (l, m) = digit-range b d in
       rw (lt-ltb (b - 48) 10 (omega arith)) (omega arith)
   digit-by false true d e h =
-      let (l, m) = letter-range b e in
+      let (l, m) = between 97 b 102 e in
       rw (le-ltb (b - 97 + 10) 10 (omega arith)) (omega arith)
   digit-by false false d e h = absurd (omega arith)
 

@@ -1,6 +1,6 @@
 -- A decimal number is read from its own text, and from no other.
 use Prim.Native.Nat.{ℕ, zero, suc, _+_, _-_, _*_, _/_, _%_, _^_, _≤_, _<_}
-use mathlib.Core.Bool.{true, false, and-eq-true-iff}
+use mathlib.Core.Bool.{true, false, _&&_, and-eq-true-iff}
 use mathlib.Core.List.{List, [], _∷_, _++_, append-assoc}
 use mathlib.Core.Option.{none, some}
 use mathlib.Core.Path.{_≡_, refl, sym, _∙_, ap}
@@ -19,9 +19,12 @@ use Rattle.text_numbers.proofs.Readers.{nothing, same-value, same-place
 use Rattle.text_numbers.proofs.Print.{decimal-small, decimal-big, print-small, print-big}
 
 -- ---- digits
+pub between : (a b z : ℕ) → (leb a b && leb b z) ≡ true → (a ≤ b) × (b ≤ z)
+between a b z e = let (l, h) = and-eq-true-iff (leb a b) (leb b z) .0 e in (leb-true a b l, leb-true b z h)
+
 pub digit-range : (b : ℕ) → isDigit b ≡ true → (48 ≤ b) × (b ≤ 57)
 unfolding isDigit
-digit-range b e = let (l, h) = and-eq-true-iff (leb 48 b) (leb b 57) .0 e in (leb-true 48 b l, leb-true b 57 h)
+digit-range b e = between 48 b 57 e
 
 digit-is : (b : ℕ) → 48 ≤ b → b ≤ 57 → isDigit b ≡ true
 unfolding isDigit

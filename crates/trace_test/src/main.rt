@@ -1,6 +1,5 @@
 // Reads the trace texts of its data files: the number of events, or the refusal with the refused line. What must come out is in the
 // file `stdout`.
-use libc::STDOUT_FILENO;
 use refusals::Outcome;
 
 // The files 000 and on: accepted texts; then refusals 1, 2 and 3; then malformed lines, item by item; then 5, 6, 7, 8 and texts with
@@ -38,8 +37,8 @@ fn read_file(path: &[u8]) {
 // The file that a number names by its three digits.
 fn numbered(i: u8) {
     let name = [b'0' + i / 100 % 10, b'0' + i / 10 % 10, b'0' + i % 10];
-    io::write_all(STDOUT_FILENO, b"text ");
-    io::write_all(STDOUT_FILENO, &name);
+    program_output::write(b"text ");
+    program_output::write(&name);
     program_output::end_line();
     read_file(&name);
 }

@@ -2,7 +2,7 @@
 
 use crate::print::tables_text;
 use crate::{Random, World};
-use reference::flow::{Action, Entry, Key, Match, Prefix};
+use reference::flow::{Action, Entry, Key, Match, Packet, Prefix};
 
 /// The lines of a random valid table text: each switch and key at most once, in any order.
 pub fn any_tables(random: &mut Random, world: World, length: usize) -> Vec<(u8, Entry)> {
@@ -43,4 +43,20 @@ pub fn reversed() -> Vec<u8> {
 /// The first 256 of the longest lines, in table order.
 pub fn sorted() -> Vec<u8> {
     tables_text(&(0..256).map(|n| (LONG_SWITCH, long_entry(n))).collect::<Vec<_>>())
+}
+
+/// A packet that every one of [`fitting_entry`] fits.
+pub const FITTING_PACKET: Packet =
+    Packet { port: 65_535, src: 0, dst: 0, proto: 255, sport: 65_535, dport: 65_535 };
+
+/// The n-th of the entries of one priority that all fit [`FITTING_PACKET`], below 1,089.
+pub fn fitting_entry(n: u16) -> Entry {
+    let zeros = |len: u16| Prefix { value: 0, len: u8::try_from(len).expect("a length") };
+    let matching = Match { src: zeros(n / 33), dst: zeros(n % 33), ..Match::ANY };
+    Entry { key: Key::new(65_535, matching), action: Action::Port(60_000 + n) }
+}
+
+/// The first 256 of these, the last one first.
+pub fn all_fitting() -> Vec<u8> {
+    tables_text(&(0..256).rev().map(|n| (LONG_SWITCH, fitting_entry(n))).collect::<Vec<_>>())
 }

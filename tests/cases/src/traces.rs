@@ -1,7 +1,7 @@
 //! Valid traces, random ones and worst cases.
 
 use crate::print::trace_text;
-use crate::tables::{long_entry, LONG_SWITCH};
+use crate::tables::{fitting_entry, long_entry, FITTING_PACKET, LONG_SWITCH};
 use crate::{Random, World};
 use reference::flow::{Action, Entry, Key, Match, Packet};
 use reference::table::TableOperation;
@@ -132,4 +132,17 @@ pub fn packets_to_the_last() -> Vec<u8> {
         Packet { port: 60_255, src: 0xffff_fff1, dst: 0xffff_fff1, proto: 255, sport: 65_535, dport: 65_535 };
     let look_up = |_| Operation::Table(LONG_SWITCH, TableOperation::Packet(packet));
     trace_text(&apart((0..256).map(look_up)))
+}
+
+/// 256 packets, each of which fits all entries of [`crate::tables::all_fitting`].
+pub fn packets_to_all() -> Vec<u8> {
+    let look_up = |_| Operation::Table(LONG_SWITCH, TableOperation::Packet(FITTING_PACKET));
+    trace_text(&apart((0..256).map(look_up)))
+}
+
+/// 255 adds of the entries after those of [`crate::tables::all_fitting`], and then a packet that fits all 511.
+pub fn packet_to_511() -> Vec<u8> {
+    let add = |n| TableOperation::Add(fitting_entry(n));
+    let operations = (256..511).map(add).chain([TableOperation::Packet(FITTING_PACKET)]);
+    trace_text(&apart(operations.map(|operation| Operation::Table(LONG_SWITCH, operation))))
 }

@@ -6,6 +6,47 @@
 
 use std::fmt::Debug;
 use std::ops::Range;
+use std::path::{Path, PathBuf};
+use std::process::Command;
+
+/// One of the project's programs: of `target/bin` of the repository, or of the folder that GELLUNKA_BIN names.
+pub fn program(name: &str) -> Command {
+    let folder = std::env::var_os("GELLUNKA_BIN")
+        .map_or_else(|| Path::new(env!("CARGO_MANIFEST_DIR")).join("../../target/bin"), PathBuf::from);
+    let path = folder.join(name);
+    assert!(path.exists(), "{} is missing: run `rt check {name}` at the repository's root", path.display());
+    Command::new(path)
+}
+
+/// A folder for files of a test, removed with all that it holds when it goes out of scope.
+pub struct Folder(PathBuf);
+
+impl Folder {
+    /// An empty folder of this process, by a name that no other test has.
+    pub fn new(name: &str) -> Folder {
+        let path = std::env::temp_dir().join(format!("gellunka-{}-{name}", std::process::id()));
+        std::fs::create_dir_all(&path).expect("a folder for the files");
+        Folder(path)
+    }
+
+    /// The path of a file in it.
+    pub fn path(&self, name: &str) -> PathBuf {
+        self.0.join(name)
+    }
+
+    /// A file with these bytes.
+    pub fn file(&self, name: &str, bytes: &[u8]) -> PathBuf {
+        let path = self.path(name);
+        std::fs::write(&path, bytes).expect("the file is written");
+        path
+    }
+}
+
+impl Drop for Folder {
+    fn drop(&mut self) {
+        let _ = std::fs::remove_dir_all(&self.0);
+    }
+}
 
 /// What both answered where they refused: number, place, and where the refused line stands.
 #[derive(Clone, Debug, PartialEq, Eq)]

@@ -123,3 +123,35 @@ fn worst_cases() {
     let normal = normalise(&tables::reversed(), 65_535).expect("valid tables");
     assert_eq!(normal, tables::sorted());
 }
+
+/// The most entries that a packet can fit at one priority, and the longest answers.
+#[test]
+fn many_entries_that_fit() {
+    let rooms = [65_536, 8_192];
+    let written = replay(&traces::packets_to_all(), &tables::all_fitting(), &recorded_order(256), rooms);
+    let answers = written.expect("all valid").answers;
+    assert!(answers.len() > 4_096, "{} bytes of answers", answers.len());
+    assert!(answers.ends_with(b"\nev=255 hit=65535,256,p60000\n"));
+    let written = replay(&traces::packet_to_511(), &tables::all_fitting(), &recorded_order(256), rooms);
+    let written = written.expect("all valid");
+    assert_eq!(written.answers, b"ev=255 hit=65535,511,p60000\n");
+    assert_eq!(written.tables.split(|&b| b == b'\n').count(), 512);
+}
+
+/// The faults of a line, the first of which is told: malformed, misnumbered, an address bit past the prefix.
+#[test]
+fn faults_of_one_line() {
+    let line = |number: usize, last: &str, length: u8, end: &str| {
+        format!(
+            "ev={number} do=deln in=- out=- sw=1 port=* src=0a00000{last}/{length} dst=00000000/0 proto=* sport=* dport=*{end}\n"
+        )
+    };
+    let refusal = |text: String| refused(list(text.as_bytes(), 0));
+    let first = line(0, "0", 8, "");
+    assert_eq!(refusal(format!("{first}{}", line(7, "1", 31, " "))), (4, 1));
+    assert_eq!(refusal(format!("{first}{}", line(7, "1", 31, ""))), (5, 1));
+    assert_eq!(refusal(format!("{first}{}", line(1, "1", 31, ""))), (6, 1));
+    // The lowest line comes first, whichever its fault.
+    assert_eq!(refusal(format!("{}{}", line(0, "1", 31, ""), line(7, "1", 31, " "))), (6, 0));
+    assert!(list(format!("{first}{}", line(1, "1", 32, "")).as_bytes(), 64).is_ok());
+}

@@ -1,5 +1,4 @@
-//! What the project's three programs print, against the reference. They are taken from `target/bin` of the
-//! repository, or from the folder that GELLUNKA_BIN names.
+//! What the project's three programs print, against the reference.
 
 use cases::damage::damaged;
 use cases::orders::any_damaged;
@@ -7,19 +6,11 @@ use cases::print::{tables_text, trace_text};
 use cases::tables::any_tables;
 use cases::traces::{any_length, any_trace};
 use cases::{tables, traces, Random, World};
+use differential::{program, Folder};
 use reference::output::{normalised, racelist, replayed};
 use reference::replay::recorded_order;
 use std::io::Write;
-use std::path::{Path, PathBuf};
-use std::process::{Command, Stdio};
-
-fn program(name: &str) -> Command {
-    let folder = std::env::var_os("GELLUNKA_BIN")
-        .map_or_else(|| Path::new(env!("CARGO_MANIFEST_DIR")).join("../../target/bin"), PathBuf::from);
-    let path = folder.join(name);
-    assert!(path.exists(), "{} is missing: run `rt check {name}` at the repository's root", path.display());
-    Command::new(path)
-}
+use std::process::Stdio;
 
 /// What a program prints of an input.
 fn printed(name: &str, input: &[u8]) -> Vec<u8> {
@@ -75,15 +66,12 @@ fn normal_forms() {
 
 #[test]
 fn replays() {
-    let folder = std::env::temp_dir().join(format!("gellunka-{}", std::process::id()));
-    std::fs::create_dir_all(&folder).expect("a folder for the files");
-    let path = |name: &str| folder.join(name);
+    let folder = Folder::new("replays");
     let replay = |trace: &[u8], tables: &[u8], order: Option<&[u8]>| {
         let mut command = program("replay_trace");
         for (name, bytes) in [("trace", Some(trace)), ("tables", Some(tables)), ("order", order)] {
             if let Some(bytes) = bytes {
-                std::fs::write(path(name), bytes).expect("the file is written");
-                command.arg(path(name));
+                command.arg(folder.file(name, bytes));
             }
         }
         let printed = command.output().expect("the program ends").stdout;
@@ -98,6 +86,7 @@ fn replays() {
     ] {
         replay(&trace, &tables::reversed(), None);
     }
+    replay(&traces::packets_to_all(), &tables::all_fitting(), None);
     replay(b"", b"", None);
     replay(b"", b"", Some(b""));
     let mut random = Random::from_seed(203);
@@ -110,6 +99,7 @@ fn replays() {
         replay(&trace, &tables, Some(&any_damaged(&mut random, &recorded_order(length))));
         replay(&damaged(&mut random, &trace), &tables, None);
         replay(&trace, &damaged(&mut random, &tables), None);
+        let order = any_damaged(&mut random, &recorded_order(length));
+        replay(&damaged(&mut random, &trace), &damaged(&mut random, &tables), Some(&order));
     }
-    std::fs::remove_dir_all(&folder).expect("the folder is removed");
 }

@@ -1,8 +1,7 @@
 use mathlib.Core.Path.{sym, _∙_}
 use borrow.Author.Needs.{needs}
 use Rattle.text_numbers.specs.Number.{hexValue}
-use Rattle.text_numbers.proofs.Numbers.{digit-range}
-use Rattle.text_numbers.proofs.Hex.{letter-range}
+use Rattle.text_numbers.proofs.Numbers.{between, digit-range}
 use Rattle.text_numbers.proofs.read.hex_value.Statement.{statement}
 use Rattle.text_numbers.proofs.read.hex_value.Tie as tie
 
@@ -14,7 +13,7 @@ unfolding hexValue
 returns c = simp (sym (c .before .is-digit .ensures) ∙ c .if1 .taken)
 
 sub-result-2 : tie.Need-sub-result-2
-sub-result-2 c = letter-range _ (c .if2 .taken) .0
+sub-result-2 c = between _ _ _ (c .if2 .taken) .0
 
 returns-2 : tie.Need-returns-2
 unfolding hexValue

@@ -35,12 +35,12 @@ add-v c = omega (arith, digit-range _ (digit c))
 returns : tie.Need-returns Inv-loop μ-loop
 returns c =
     let l = c .before .before .before .before in
-    sym (l .before .loop .inv .1 ∙ digits-over _ _ _ _ (l .loop-test .taken) (digit (c .before)) (c .if2 .taken))
+    sym (l .before .loop .inv .1 ∙ digits-over _ _ _ _ (l .loop-test .taken) (digit (c .before)) (omega (arith, c .if2 .taken)))
 
 loop-again : tie.Need-loop-again Inv-loop μ-loop
 loop-again c =
     let l = c .before .before .before .before in
-    (omega arith, l .before .loop .inv .1 ∙ digits-more _ _ _ _ (l .loop-test .taken) (digit (c .before)) (c .if2 .left))
+    (omega (arith, c .if2 .left), l .before .loop .inv .1 ∙ digits-more _ _ _ _ (l .loop-test .taken) (digit (c .before)) (c .if2 .left))
 
 returns-2 : tie.Need-returns-2 Inv-loop μ-loop
 returns-2 c =

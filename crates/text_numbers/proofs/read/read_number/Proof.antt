@@ -8,13 +8,19 @@ use denote.Ref.{now}
 use lib.ListN.{getD}
 use Rattle.text_numbers.specs.Number.{isDigit}
 use Rattle.text_numbers.proofs.Readers.{tested}
-use Rattle.text_numbers.proofs.Numbers.{digit-in, number-none, number-digits, number-zero, number-lead}
+use Rattle.text_numbers.proofs.Numbers.{digit-range, digit-in, number-none, number-digits, number-zero, number-lead}
 use Rattle.text_numbers.proofs.read.read_number.Statement.{statement}
 use Rattle.text_numbers.proofs.read.read_number.Tie as tie
 
 -- the first byte is a digit
 digit : (c : tie.Then1) → isDigit (getD (now (c .before .before .before .before .args .s)) (c .before .before .before .before .args .at) 0) ≡ true
 digit c = tested isDigit (c .before .before .byte-at .ensures) (c .before .is-digit .ensures) (c .if1 .taken)
+
+-- the first byte is `0`
+zero : (c : tie.Then2) → getD (now (c .before .before .before .before .before .args .s)) (c .before .before .before .before .before .args .at) 0 ≡ 48
+zero c =
+    let f = c .before in
+    omega (arith, f .before .before .byte-at .ensures, c .if2 .taken, digit-range _ (digit f))
 
 add-next : tie.Need-add-next
 add-next c =
@@ -27,7 +33,7 @@ returns c =
     let at-byte-at2 = c .before .before in
     let at-if2 = at-byte-at2 .before in
     let f = at-if2 .before in
-    sym (number-lead _ _ _ (digit f) (sym (f .before .before .byte-at .ensures) ∙ at-if2 .if2 .taken)
+    sym (number-lead _ _ _ (digit f) (zero at-if2)
     (tested isDigit (at-byte-at2 .byte-at2 .ensures) (c .before .is-digit2 .ensures) (c .if3 .taken)))
 
 returns-2 : tie.Need-returns-2
@@ -35,7 +41,7 @@ returns-2 c =
     let at-byte-at2 = c .before .before in
     let at-if2 = at-byte-at2 .before in
     let f = at-if2 .before in
-    sym (number-zero _ _ _ (digit f) (sym (f .before .before .byte-at .ensures) ∙ at-if2 .if2 .taken)
+    sym (number-zero _ _ _ (digit f) (zero at-if2)
     (tested isDigit (at-byte-at2 .byte-at2 .ensures) (c .before .is-digit2 .ensures) (c .if3 .left)))
 
 returns-3 : tie.Need-returns-3

@@ -15,7 +15,7 @@ abbrev μ-loop : tie.MeasureT-loop
 μ-loop s key n i₀ i = length key - i
 
 returns : tie.Need-returns Inv-loop μ-loop
-returns c = sym (starts-short _ _ (c .if1 .taken))
+returns c = sym (starts-short _ _ (omega (arith, c .if1 .taken)))
 
 loop-holds : tie.Need-loop-holds Inv-loop μ-loop
 loop-holds c = (omega arith, c .if1 .left, refl)

@@ -1,0 +1,140 @@
+//! What the programs do where something can't be read or written, where arguments are missing or too many, and where an
+//! input comes in parts: seen from outside.
+
+use cases::{tables, traces};
+use differential::{program, Folder};
+use reference::output::{normalised, racelist, replayed};
+use std::fs::File;
+use std::io::Write;
+use std::path::Path;
+use std::process::{Command, Output, Stdio};
+use std::time::Duration;
+
+const TRACE: &[u8] = b"ev=0 do=bar in=- out=- sw=1\n";
+const TABLES: &[u8] = b"sw=1 prio=1 port=* src=00000000/0 dst=00000000/0 proto=* sport=* dport=* act=drop\n";
+
+/// Nothing printed; on standard error a line that begins so.
+fn says(output: &Output, begins: &str) {
+    let said = String::from_utf8_lossy(&output.stderr);
+    assert!(output.stdout.is_empty(), "printed {}", output.stdout.escape_ascii());
+    assert!(said.starts_with(begins) && said.ends_with('\n'), "said {said:?} and not {begins:?}");
+    assert_eq!(said.lines().count(), 1, "{said:?}");
+}
+
+/// The two programs that read standard input, each with an input that is accepted and one that is refused.
+const READING: [(&str, &[u8]); 4] =
+    [("racelist", TRACE), ("racelist", b"x\n"), ("normalise", TABLES), ("normalise", b"x\n")];
+
+fn run(command: &mut Command, input: Stdio, output: Stdio) -> Output {
+    let running = command.stdin(input).stdout(output).stderr(Stdio::piped()).spawn();
+    running.expect("the program starts").wait_with_output().expect("the program ends")
+}
+
+fn file(path: &Path) -> Stdio {
+    Stdio::from(File::open(path).expect("the file is opened"))
+}
+
+/// Through a shell, which opens and closes as it is told.
+fn shell(redirected: &str, command: &Command) -> Output {
+    let words = std::iter::once(command.get_program()).chain(command.get_args());
+    let script = format!("exec \"$@\" {redirected}");
+    Command::new("sh").arg("-c").arg(script).arg("sh").args(words).output().expect("the shell runs")
+}
+
+#[test]
+fn a_full_disk_is_said() {
+    let folder = Folder::new("full");
+    let full = || Stdio::from(File::options().write(true).open("/dev/full").expect("/dev/full"));
+    for (name, input) in READING {
+        let input = file(&folder.file("input", input));
+        says(&run(&mut program(name), input, full()), "standard output: No space left");
+    }
+    for trace in [TRACE, b"x\n"] {
+        let mut replay = program("replay_trace");
+        replay.arg(folder.file("trace", trace)).arg(folder.file("tables", TABLES));
+        says(&run(&mut replay, Stdio::null(), full()), "standard output: No space left");
+    }
+}
+
+#[test]
+fn a_closed_output_is_said() {
+    let folder = Folder::new("closed");
+    for (name, input) in READING {
+        let input = folder.file("input", input);
+        let output = shell(&format!("<\"{}\" >&-", input.display()), &program(name));
+        says(&output, "standard output: Bad file descriptor");
+    }
+    let mut replay = program("replay_trace");
+    replay.arg(folder.file("trace", TRACE)).arg(folder.file("tables", TABLES));
+    says(&shell(">&-", &replay), "standard output: Bad file descriptor");
+}
+
+#[test]
+fn an_input_that_cannot_be_read_is_said() {
+    let folder = Folder::new("unread");
+    for name in ["racelist", "normalise"] {
+        let directory = run(&mut program(name), file(&folder.path("")), Stdio::piped());
+        says(&directory, "standard input: Is a directory");
+        says(&shell("<&-", &program(name)), "standard input: Bad file descriptor");
+    }
+    let (trace, tables) = (folder.file("trace", TRACE), folder.file("tables", TABLES));
+    let (order, missing) = (folder.file("order", b"\0"), folder.path("missing"));
+    for absent in 0..3 {
+        for (bad, said) in [(&missing, "No such file or directory"), (&folder.path(""), "Is a directory")] {
+            let mut arguments = [&trace, &tables, &order];
+            arguments[absent] = bad;
+            let mut replay = program("replay_trace");
+            let output = replay.args(arguments).output().expect("the program ends");
+            says(&output, &format!("{}: {said}", bad.display()));
+        }
+    }
+    let long = "x".repeat(5_000);
+    let output = program("replay_trace").args([&long, "tables"]).output().expect("the program ends");
+    says(&output, "argument: File name too long");
+}
+
+#[test]
+fn missing_and_surplus_arguments_are_said() {
+    for name in ["racelist", "normalise"] {
+        let output = run(program(name).arg("trace"), Stdio::null(), Stdio::piped());
+        says(&output, &format!("usage: {name} < "));
+    }
+    for count in [0, 1, 4, 5] {
+        let output = program("replay_trace").args(vec!["x"; count]).output().expect("the program ends");
+        says(&output, "usage: replay_trace TRACE TABLES [ORDER]");
+    }
+}
+
+/// Writes a text in parts, with a pause after each.
+fn in_parts(mut to: impl Write, text: &[u8]) {
+    for part in text.chunks(text.len() / 3 + 1) {
+        to.write_all(part).expect("the program reads on");
+        to.flush().expect("the program reads on");
+        std::thread::sleep(Duration::from_millis(40));
+    }
+}
+
+#[test]
+fn an_input_may_come_in_parts() {
+    let (trace, tables) = (traces::long_adds(), tables::reversed());
+    for (name, input, expected) in
+        [("racelist", &trace, racelist(&trace)), ("normalise", &tables, normalised(&tables))]
+    {
+        let mut running =
+            program(name).stdin(Stdio::piped()).stdout(Stdio::piped()).spawn().expect("the program starts");
+        in_parts(running.stdin.take().expect("piped"), input);
+        let printed = running.wait_with_output().expect("the program ends").stdout;
+        assert!(printed == expected, "{name} printed {}", printed.escape_ascii());
+    }
+    let folder = Folder::new("parts");
+    let mut running = program("replay_trace")
+        .arg("/dev/stdin")
+        .arg(folder.file("tables", &tables))
+        .stdin(Stdio::piped())
+        .stdout(Stdio::piped())
+        .spawn()
+        .expect("the program starts");
+    in_parts(running.stdin.take().expect("piped"), &trace);
+    let printed = running.wait_with_output().expect("the program ends").stdout;
+    assert!(printed == replayed(&trace, &tables, None), "printed {}", printed.escape_ascii());
+}

@@ -3,36 +3,23 @@ use Prim.Native.Nat.{ℕ}
 use mathlib.Core.Path.{_≡_, refl, sym, ap, _∙_}
 use mathlib.Core.Logic.{_↔_, _⊎_, inl, inr, ⊎-elim}
 use mathlib.Core.Bool.{true, _&&_, _||_, or-true, false≢true}
-use mathlib.Core.List.{List, [], _∷_, List·Memᴰ, List·Memᴰ·head, List·Memᴰ·tail, List·Memᴰ·cases-cons, List·Memᴰ·not-nil}
 use lib.Dec.{eqb}
 use borrow.Author.Tests.{eqb-true, eq-eqb}
 use Rattle.flow_table.specs.Switches.{switchOf}
-use Rattle.basics.specs.Searches.{has, shares}
 use Rattle.basics.proofs.Booleans.{and-left, and-right, and-intro, or-cases}
-use Rattle.basics.proofs.Searches.{shares-found, shares-at}
+use Rattle.basics.proofs.Searches.{has-iff, shares-found, shares-at}
 use Rattle.trace_events.specs.Types.{TableOperation, Operation, Head, Event}
 use Rattle.trace_events.specs.Events.{tokensOf, isBarrier, isWrite, barrierOrders}
 use Rattle.trace_events.specs.Precedence.{barrierStep, tokenStep, precedes, Write, Among, BarrierJoins, TokenPasses, DirectlyPrecedes}
 
 -- ---- tokens
-has-in : (t : ℕ) (ts : List ℕ) → (has t ts ≡ true) ↔ List·Memᴰ t ts
-has-in t ts = (found ts, at ts)
-  where
-    found : (ts : List ℕ) → has t ts ≡ true → List·Memᴰ t ts
-    found [] e = absurd (false≢true e)
-    found (u ∷ ts) e = or-cases (eqb t u) (has t ts) e (λ f. List·Memᴰ·head (eqb-true t u f)) (λ f. List·Memᴰ·tail (found ts f))
-
-    at : (ts : List ℕ) → List·Memᴰ t ts → has t ts ≡ true
-    at [] m = absurd (List·Memᴰ·not-nil m)
-    at (u ∷ ts) m = ⊎-elim (λ e. rw (eq-eqb t u e) refl) (λ n. rw (at ts n) (or-true (eqb t u))) (List·Memᴰ·cases-cons m)
-
 pub token-iff : (a b : Head) → (tokenStep a b ≡ true) ↔ TokenPasses a b
 unfolding tokenStep
 token-iff a b = (
   λ e.
       let r = shares-found (tokensOf (a .outs)) (tokensOf (b .ins)) e in
-      record { token = r .0; in-out = has-in (r .0) (tokensOf (a .outs)) .0 (r .1); in-in = has-in (r .0) (tokensOf (b .ins)) .0 (r .2) },
-  λ p. shares-at (tokensOf (a .outs)) (tokensOf (b .ins)) (p .token) (has-in (p .token) (tokensOf (a .outs)) .1 (p .in-out)) (has-in (p .token) (tokensOf (b .ins)) .1 (p .in-in)),
+      record { token = r .0; in-out = has-iff (r .0) (tokensOf (a .outs)) .0 (r .1); in-in = has-iff (r .0) (tokensOf (b .ins)) .0 (r .2) },
+  λ p. shares-at (tokensOf (a .outs)) (tokensOf (b .ins)) (p .token) (has-iff (p .token) (tokensOf (a .outs)) .1 (p .in-out)) (has-iff (p .token) (tokensOf (b .ins)) .1 (p .in-in)),
 )
 
 -- ---- barriers

@@ -6,7 +6,7 @@ use mathlib.Core.Path.{_≡_, refl, sym, ap, _∙_}
 use mathlib.Core.Bool.{Bool, true, false, _&&_, false≢true, true≢false, or-true}
 use mathlib.Core.Logic.{_↔_, ⊎-elim}
 use mathlib.Core.Option.{Option, none, some}
-use mathlib.Core.List.{List, [], _∷_}
+use mathlib.Core.List.{List, [], _∷_, List·Memᴰ, List·Memᴰ·head, List·Memᴰ·tail, List·Memᴰ·cases-cons, List·Memᴰ·not-nil}
 use native.Mathlib.Omega.{arith}
 use lib.Dec.{eqb}
 use borrow.Author.Tests.{eqb-true, eqb-false, eq-eqb}
@@ -35,6 +35,18 @@ any-at p zero k l h = absurd (omega arith)
 any-at p (suc n) k l h = split (eqb k n)
     (λ e. rw (ap p (sym (eqb-true k n e)) ∙ h) (or-true (anyBelow p n)))
     (λ e. let d = eqb-false k n e in rw (any-at p n k (omega arith) h))
+
+-- ---- a number stands in a list
+pub has-iff : (t : ℕ) (ts : List ℕ) → (has t ts ≡ true) ↔ List·Memᴰ t ts
+has-iff t ts = (found ts, at ts)
+  where
+    found : (ts : List ℕ) → has t ts ≡ true → List·Memᴰ t ts
+    found [] e = absurd (false≢true e)
+    found (u ∷ ts) e = or-cases (eqb t u) (has t ts) e (λ f. List·Memᴰ·head (eqb-true t u f)) (λ f. List·Memᴰ·tail (found ts f))
+
+    at : (ts : List ℕ) → List·Memᴰ t ts → has t ts ≡ true
+    at [] m = absurd (List·Memᴰ·not-nil m)
+    at (u ∷ ts) m = ⊎-elim (λ e. rw (eq-eqb t u e) refl) (λ n. rw (at ts n) (or-true (eqb t u))) (List·Memᴰ·cases-cons m)
 
 -- ---- some token stands in both lists
 token-found : (p : ℕ → Bool) (ts : List ℕ) → anyIn p ts ≡ true → (t : ℕ) × (has t ts ≡ true) × (p t ≡ true)

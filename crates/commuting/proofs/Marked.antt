@@ -1,18 +1,17 @@
 -- The marked cases of document 01, in one theorem about commuting. What the document leaves open (priorities n and m, actions a and
 -- b, the packet's other fields) is any. Assumes nothing.
-use mathlib.Core.Path.{_≡_, refl, _∙_, ap}
-use mathlib.Core.Bool.{true, false, and-false}
-use mathlib.Core.List.{[], _∷_}
-use Prim.Native.Nat.{ℕ}
+use mathlib.Core.Path.{_≡_, refl, sym, _∙_, ap}
+use mathlib.Core.Bool.{true, false, and-false, true≢false}
 use lib.Dec.{lit<, lit≤}
 use Rattle.flow.specs.Matches.{prefixFits, fits, overlaps, within, MatchInRange}
 use Rattle.flow.specs.Entries.{rank, matchOrder, keyOrder, sameKey, sameAction}
 use Rattle.flow.specs.Orders.{orderOf, thenBy}
 use Rattle.flow.proofs.PrefixField.{prefix-clear-means, prefix-fits-leading}
 use Rattle.flow.proofs.Leading.{overlaps-by-bits, within-by-bits, other-destination}
-use Rattle.commuting.specs.Types.{Packet, Action}
-use Rattle.commuting.specs.Commuting.{commutes}
-use Rattle.commuting.specs.Marked.{A, B, D, markedCases}
+use Rattle.commuting.specs.Types.{Packet, Effect}
+use Rattle.commuting.specs.Commuting.{Commute, commutes}
+use Rattle.commuting.specs.Marked.{A, B, D, MarkedCases}
+use Rattle.commuting.proofs.Theorems.{commutes-iff}
 
 -- the three matches are in range
 A-in-range : MatchInRange A
@@ -69,7 +68,27 @@ B-in-A = within-by-bits B A B-in-range A-in-range
 to-0b : (p : Packet) → p .dst ≡ 0x0b000000 → fits A p ≡ false
 to-0b p e = other-destination A p (ap (λ x. prefixFits (A .dst) x) e ∙ prefix-fits-leading (A .dst) 0x0b000000 (lit< tt) (lit< tt))
 
-pub marked : (n m : ℕ) (a b : Action) (p : Packet) → p .dst ≡ 0x0b000000
-    → markedCases n m a b p ≡ true ∷ true ∷ true ∷ true ∷ true ∷ true ∷ false ∷ false ∷ false ∷ false ∷ false ∷ false ∷ false ∷ []
+-- by the test
+yes : (v w : Effect) → commutes v w ≡ true → Commute v w
+yes v w e = commutes-iff v w .0 e
+
+no : (v w : Effect) → commutes v w ≡ false → Commute v w → ⊥
+no v w e f = true≢false (sym (commutes-iff v w .1 f) ∙ e)
+
+pub marked : MarkedCases
 unfolding commutes sameKey keyOrder matchOrder rank orderOf thenBy sameAction
-marked n m a b p e = rw (A-over-A, B-over-A, A-over-D, D-over-A, A-over-B, A-in-D, D-in-A, A-in-B, B-in-A, to-0b p e, and-false) refl
+marked = record {
+  add-A-5-p1-twice = yes _ _ refl;
+  add-A-5-with-addc-B-6 = λ a b. yes _ _ refl;
+  modn-A-5-p1-with-modn-D-5-p1 = yes _ _ (rw (A-over-D, A-in-D, D-in-A) refl);
+  deln-A-with-dels-B-5 = yes _ _ refl;
+  deln-A-with-add-D-5 = λ a. yes _ _ (rw D-in-A refl);
+  pkt-to-0b000000-with-add-A = λ p e n a. yes _ _ (rw (to-0b p e) refl);
+  add-A-5-p1-with-add-A-5-p2 = no _ _ refl;
+  add-A-5-with-addc-B-5 = λ a b. no _ _ (rw B-over-A refl);
+  modn-A-5-p1-with-modn-B-5-p1 = no _ _ (rw (A-over-B, A-in-B, B-in-A) refl);
+  modn-A-p1-with-modn-D-p2 = λ n m. no _ _ (rw (A-over-D, and-false) refl);
+  deln-A-with-addc-D-5 = λ a. no _ _ (rw D-over-A refl);
+  modn-A-with-dels-B-5 = λ n a. no _ _ (rw B-in-A refl);
+  addc-A-5-twice = λ a b. no _ _ (rw A-over-A refl);
+}

@@ -14,7 +14,7 @@ use Rattle.basics.proofs.Booleans.{split, both-ways}
 use Rattle.flow.proofs.Matches.{match-field}
 use Rattle.flow_table.specs.FlowTable.{Table, Sorted, TableInRange, effectOf, EffectInRange}
 use Rattle.commuting.specs.Types.{Match, Key, Operation, Effect}
-use Rattle.commuting.specs.Commuting.{Commute, commutes, at, Told}
+use Rattle.commuting.specs.Commuting.{Agree, Commute, commutes, at, Told}
 use Rattle.commuting.specs.Inner.{one, witness}
 use Rattle.commuting.proofs.Sound.{commutes-sound, agree-sym}
 use Rattle.commuting.proofs.Exact.{commutes-exact}
@@ -92,6 +92,13 @@ pub commutes-iff : (v w : Effect) → (commutes v w ≡ true) ↔ Commute v w
 commutes-iff v w = (
   λ e t s. commutes-sound t s v w e,
   λ f. split (commutes v w) (λ e. e) (λ e. absurd (commutes-exact v w e (f (witness v w) (witness-small v w .sorted)))),
+)
+
+-- of events in range: exactly if they agree on every table in range
+pub commutes-in-range : (v w : Effect) → EffectInRange v → EffectInRange w → (commutes v w ≡ true) ↔ ((t : Table) → Sorted t → TableInRange t → Agree v w t)
+commutes-in-range v w h k = (
+  λ e t s r. commutes-sound t s v w e,
+  λ f. split (commutes v w) (λ e. e) (λ e. let x = told v w h k e in absurd (x .apart (f (witness v w) (x .sorted) (x .inRange)))),
 )
 
 -- either way round

@@ -11,7 +11,7 @@ use Rattle.basics.proofs.Booleans.{split}
 use Rattle.flow.proofs.Orders.{falling, lexicographic, in-turn}
 use Rattle.flow.specs.Orders.{IsOrder, opposite}
 
-exact-apart : (a b : Exact) → exactRank a ≡ exactRank b → a ≡ b
+pub exact-apart : (a b : Exact) → exactRank a ≡ exactRank b → a ≡ b
 exact-apart Exact.Any Exact.Any e = refl
 exact-apart Exact.Any (Exact.Is n) e = absurd (omega arith)
 exact-apart (Exact.Is m) Exact.Any e = absurd (omega arith)

@@ -8,4 +8,5 @@ pub mod Matches
 pub mod Leading
 pub mod Orders
 pub mod Entries
+pub mod TableOrder
 pub mod SameKey

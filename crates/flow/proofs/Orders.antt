@@ -12,7 +12,7 @@ use Rattle.basics.proofs.Booleans.{split}
 pub equal≢less : Ordering.Equal ≡ Ordering.Less → ⊥
 equal≢less p = let z : _≡_ {A = ℕ} 0 1 = cc in omega arith
 
-greater≢less : Ordering.Greater ≡ Ordering.Less → ⊥
+pub greater≢less : Ordering.Greater ≡ Ordering.Less → ⊥
 greater≢less p = let z : _≡_ {A = ℕ} 0 1 = cc in omega arith
 
 less≢equal : Ordering.Less ≡ Ordering.Equal → ⊥
@@ -51,7 +51,7 @@ module _ {A : Type 0} {c : A → A → Ordering} (C : IsOrder A c) where
       go Ordering.Greater e Ordering.Greater e′ k k′ = absurd (greater≢less k)
 
 -- ---- numbers
-number-less : {a b : ℕ} → a < b → orderOf a b ≡ Ordering.Less
+pub number-less : {a b : ℕ} → a < b → orderOf a b ≡ Ordering.Less
 unfolding orderOf
 number-less {a} {b} h = rw (lt-ltb a b h)
 
@@ -67,10 +67,10 @@ number-greater {a} {b} h = rw (le-ltb a b (omega arith), lt-ltb b a h)
 three : {G : Type 0} (a b : ℕ) → (a < b → G) → (a ≡ b → G) → (b < a → G) → G
 three a b f g h = split (ltb a b) (λ e. f (ltb-true a b e)) (λ e. split (ltb b a) (λ k. h (ltb-true b a k)) (λ k. g (omega (arith, ltb-false a b e, ltb-false b a k))))
 
-less-number : (a b : ℕ) → orderOf a b ≡ Ordering.Less → a < b
+pub less-number : (a b : ℕ) → orderOf a b ≡ Ordering.Less → a < b
 less-number a b e = three a b (λ h. h) (λ h. absurd (equal≢less (sym (number-equal h) ∙ e))) (λ h. absurd (greater≢less (sym (number-greater h) ∙ e)))
 
-equal-number : (a b : ℕ) → orderOf a b ≡ Ordering.Equal → a ≡ b
+pub equal-number : (a b : ℕ) → orderOf a b ≡ Ordering.Equal → a ≡ b
 equal-number a b e = three a b (λ h. absurd (less≢equal (sym (number-less h) ∙ e))) (λ h. h) (λ h. absurd (greater≢equal (sym (number-greater h) ∙ e)))
 
 number-turn : (a b : ℕ) → orderOf b a ≡ opposite (orderOf a b)

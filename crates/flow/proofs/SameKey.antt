@@ -1,15 +1,18 @@
--- Table order finds two keys equal exactly if the priorities are equal and each field of the matches. Assumes nothing.
-use mathlib.Core.Path.{_≡_, sym, _∙_, ap}
-use mathlib.Core.Bool.{false, _&&_}
+-- Table order finds two keys equal exactly if the priorities are equal and each field of the matches; the tests for the same field
+-- and the same match are equality. Assumes nothing.
+use mathlib.Core.Path.{_≡_, refl, sym, _∙_, ap}
+use mathlib.Core.Logic.{_↔_}
+use mathlib.Core.Bool.{Bool, true, false, _&&_}
 use Prim.Native.Nat.{ℕ}
 use native.Mathlib.Omega.{arith}
 use lib.Dec.{eqb, ltb}
-use borrow.Author.Tests.{eq-eqb, ne-eqb, ltb-true, ltb-false}
-use Rattle.flow.specs.Types.{Match, Key, Ordering}
-use Rattle.flow.specs.Entries.{rank, matchOrder, keyOrder, isEqual, sameKey}
-use Rattle.flow.specs.Inner.{sameMatch}
+use borrow.Author.Tests.{eqb-true, eq-eqb, ne-eqb, ltb-true, ltb-false}
+use Rattle.flow.specs.Types.{Exact, Prefix, Match, Key, Ordering}
+use Rattle.flow.specs.Entries.{exactRank, rank, matchOrder, keyOrder, isEqual, sameKey}
+use Rattle.flow.specs.Inner.{sameExact, samePrefix, sameMatch}
 use Rattle.flow.specs.Orders.{orderOf, thenBy}
-use Rattle.basics.proofs.Booleans.{split, and-assoc, and-true}
+use Rattle.basics.proofs.Booleans.{split, and-left, and-right, and-intro, and-assoc, and-true}
+use Rattle.flow.proofs.Entries.{exact-apart}
 
 equal-then : (a b : ℕ) (o : Ordering) → isEqual (thenBy (orderOf a b) o) ≡ (eqb a b && isEqual o)
 unfolding thenBy orderOf
@@ -32,3 +35,61 @@ other-priority j k h = rw (same-key j k, ne-eqb (k .priority) (j .priority) (λ 
 
 pub one-priority : (j k : Key) → j .priority ≡ k .priority → sameKey j k ≡ sameMatch (j .pattern) (k .pattern)
 one-priority j k h = rw (same-key j k, eq-eqb (k .priority) (j .priority) (sym h))
+
+-- ---- the tests are equality
+pub same-exact-iff : (a b : Exact) → (sameExact a b ≡ true) ↔ (a ≡ b)
+same-exact-iff a b = (λ e. exact-apart a b (eqb-true (exactRank a) (exactRank b) e), λ q. eq-eqb (exactRank a) (exactRank b) (ap exactRank q))
+
+pub same-prefix-iff : (p q : Prefix) → (samePrefix p q ≡ true) ↔ (p ≡ q)
+same-prefix-iff p q = (
+  λ e.
+      let v = eqb-true (p .value) (q .value) (and-left (eqb (p .value) (q .value)) (eqb (p .length) (q .length)) e) in
+      let l = eqb-true (p .length) (q .length) (and-right (eqb (p .value) (q .value)) (eqb (p .length) (q .length)) e) in
+      λ i. record { value = v i; length = l i },
+  λ e. and-intro (eq-eqb (p .value) (q .value) (ap (λ (r : Prefix). r .value) e)) (eq-eqb (p .length) (q .length) (ap (λ (r : Prefix). r .length) e)),
+)
+
+pub same-match-iff : (m n : Match) → (sameMatch m n ≡ true) ↔ (m ≡ n)
+unfolding sameMatch
+same-match-iff m n = (forth, back)
+  where
+    b₀ : Bool
+    b₀ = sameExact (m .port) (n .port)
+
+    b₁ : Bool
+    b₁ = samePrefix (m .src) (n .src)
+
+    b₂ : Bool
+    b₂ = samePrefix (m .dst) (n .dst)
+
+    b₃ : Bool
+    b₃ = sameExact (m .proto) (n .proto)
+
+    b₄ : Bool
+    b₄ = sameExact (m .sport) (n .sport)
+
+    b₅ : Bool
+    b₅ = sameExact (m .dport) (n .dport)
+
+    forth : (b₀ && (b₁ && (b₂ && (b₃ && (b₄ && b₅))))) ≡ true → m ≡ n
+    forth e₀ =
+        let e₁ = and-right b₀ (b₁ && (b₂ && (b₃ && (b₄ && b₅)))) e₀ in
+        let e₂ = and-right b₁ (b₂ && (b₃ && (b₄ && b₅))) e₁ in
+        let e₃ = and-right b₂ (b₃ && (b₄ && b₅)) e₂ in
+        let e₄ = and-right b₃ (b₄ && b₅) e₃ in
+        let q₀ = same-exact-iff (m .port) (n .port) .0 (and-left b₀ (b₁ && (b₂ && (b₃ && (b₄ && b₅)))) e₀) in
+        let q₁ = same-prefix-iff (m .src) (n .src) .0 (and-left b₁ (b₂ && (b₃ && (b₄ && b₅))) e₁) in
+        let q₂ = same-prefix-iff (m .dst) (n .dst) .0 (and-left b₂ (b₃ && (b₄ && b₅)) e₂) in
+        let q₃ = same-exact-iff (m .proto) (n .proto) .0 (and-left b₃ (b₄ && b₅) e₃) in
+        let q₄ = same-exact-iff (m .sport) (n .sport) .0 (and-left b₄ b₅ e₄) in
+        let q₅ = same-exact-iff (m .dport) (n .dport) .0 (and-right b₄ b₅ e₄) in
+        λ i. record { port = q₀ i; src = q₁ i; dst = q₂ i; proto = q₃ i; sport = q₄ i; dport = q₅ i }
+
+    back : m ≡ n → (b₀ && (b₁ && (b₂ && (b₃ && (b₄ && b₅))))) ≡ true
+    back q =
+        and-intro (same-exact-iff (m .port) (n .port) .1 (ap (λ (x : Match). x .port) q))
+        (and-intro (same-prefix-iff (m .src) (n .src) .1 (ap (λ (x : Match). x .src) q))
+        (and-intro (same-prefix-iff (m .dst) (n .dst) .1 (ap (λ (x : Match). x .dst) q))
+        (and-intro (same-exact-iff (m .proto) (n .proto) .1 (ap (λ (x : Match). x .proto) q))
+        (and-intro (same-exact-iff (m .sport) (n .sport) .1 (ap (λ (x : Match). x .sport) q))
+        (same-exact-iff (m .dport) (n .dport) .1 (ap (λ (x : Match). x .dport) q))))))

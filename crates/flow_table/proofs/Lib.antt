@@ -1,3 +1,4 @@
 pub mod TableLaws
 pub mod Effects
 pub mod CarriedLaws
+pub mod Meanings

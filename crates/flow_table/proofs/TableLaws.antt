@@ -197,7 +197,7 @@ table-ext (d ∷ t) (e ∷ u) s r h = go (keyOrder (d .key) (e .key)) refl (tabl
                 (rw (v, w) at (h k))
 
 -- ---- membership: an entry is in a table in order just if its key has its action there
-get-mem : (k : Key) (a : Action) (t : Table) → get k t ≡ some a → List·Memᴰ (entry k a) t
+pub get-mem : (k : Key) (a : Action) (t : Table) → get k t ≡ some a → List·Memᴰ (entry k a) t
 get-mem k a [] h = absurd (none-some h)
 get-mem k a (e ∷ t) h = go (sameKey k (e .key)) refl h (get-mem k a t)
   where
@@ -205,7 +205,7 @@ get-mem k a (e ∷ t) h = go (sameKey k (e .key)) refl h (get-mem k a t)
     go true u h ih = let q = same-eq k (e .key) u in let r = Option·some-injective (e .action) a h in List·Memᴰ·head (λ i. entry (q i) (sym r i))
     go false u h ih = List·Memᴰ·tail (ih h)
 
-mem-get : (e : Entry) (t : Table) → Sorted t → List·Memᴰ e t → get (e .key) t ≡ some (e .action)
+pub mem-get : (e : Entry) (t : Table) → Sorted t → List·Memᴰ e t → get (e .key) t ≡ some (e .action)
 mem-get e [] s m = absurd (List·Memᴰ·not-nil m)
 mem-get e (d ∷ t) s m = ⊎-elim here (λ n. there (mem-get e t (s .1) n)) (List·Memᴰ·cases-cons m)
   where

@@ -2,3 +2,4 @@ pub mod Types
 pub mod FlowTable
 pub mod Carried
 pub mod Switches
+pub mod Meanings

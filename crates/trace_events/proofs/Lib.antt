@@ -1,3 +1,4 @@
 pub mod TokenLaws
 pub mod TraceLaws
 pub mod SideLaws
+pub mod Precedes

@@ -1,5 +1,5 @@
 -- Checks one after the other: what a sequence says, by what its first check says. Assumes nothing.
-use mathlib.Core.Path.{_≡_, refl}
+use mathlib.Core.Path.{_≡_, refl, sym, ap, _∙_}
 use mathlib.Core.Logic.{inl, inr}
 use mathlib.Core.Option.{Option, none, some}
 use mathlib.Core.List.{List}
@@ -9,7 +9,7 @@ use borrow.Author.Tests.{lt-ltb, le-ltb}
 use native.Mathlib.Omega.{arith}
 use Rattle.text_lines.specs.declared.limits.Limit.{Limit}
 use Rattle.refusals.specs.Types.{Refusal, Outcome}
-use Rattle.refusals.specs.Checks.{Checked, _▹_, refuseAt, refuseLimit, refuseShort, outcomeOf}
+use Rattle.refusals.specs.Checks.{Checked, _▹_, refuseAt, refuseLimit, refuseShort, outcomeOf, refuseNone}
 
 -- a refusal is no value
 pub not-handed : {A P : Type 0} {r : Refusal} {a : A} → _≡_ {A = Checked A} (inl r) (inr a) → P
@@ -68,3 +68,26 @@ module _ (room : ℕ) (text : List ℕ) (r : ℕ → Refusal) where
 
   pub short-passed : length text ≤ room → refuseShort room text r ≡ inr tt
   short-passed h = rw (le-ltb room (length text) h)
+
+-- ---- refused where there is no value
+-- the value that a check hands on, if it does
+abbrev pub valueOf : {A : Type 0} → Checked A → Option A
+valueOf (inl r) = none
+valueOf (inr a) = some a
+
+value-of : {A : Type 0} (x : Option A) (m : Refusal) → valueOf (refuseNone x m) ≡ x
+value-of none m = refl
+value-of (some a) m = refl
+
+-- what there is to read, by what its reader answers: nothing, where that is a refusal
+pub answered : {R A : Type 0} (view : R → Checked A) {r y : R} (x : Option A) (m : Refusal) → view r ≡ refuseNone x m → r ≡ y → x ≡ valueOf (view y)
+answered view x m p q = sym (value-of x m) ∙ ap valueOf (sym p ∙ ap view q)
+
+module _ {A : Type 0} (m : Refusal) {x y : Option A} where
+  -- the same value, or the same refusal where there is none
+  pub or-refused : x ≡ y → refuseNone x m ≡ refuseNone y m
+  or-refused e = ap (λ x. refuseNone x m) e
+
+  -- the answer of a reader that reads the rest, for the whole
+  pub carried-on : {z : Checked A} → z ≡ refuseNone x m → x ≡ y → z ≡ refuseNone y m
+  carried-on p e = p ∙ or-refused e

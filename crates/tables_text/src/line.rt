@@ -19,27 +19,28 @@ pub enum RowRead {
 pub fn row_line(s: &[u8], line: usize) -> RowRead
     ensures { λ r. ⌜ asRow r ≡ readRowLine line (now (s .entry)) ⌝ }
 {
+    let malformed = Refusal::TablesMalformed(line);
     let Number::Read {
         value: switch,
-        next: n,
+        next,
     } = number_at(s, 0, b"sw=", 15)
     else {
-        return RowRead::Refused(Refusal::TablesMalformed(line));
+        return RowRead::Refused(malformed);
     };
-    let EntryRead::Read { value: entry, next } = entry_at(s, n) else {
-        return RowRead::Refused(Refusal::TablesMalformed(line));
+    let EntryRead::Read { value: entry, next } = entry_at(s, next, malformed) else {
+        return RowRead::Refused(malformed);
     };
     if next != s.len() {
-        return RowRead::Refused(Refusal::TablesMalformed(line));
-    }
-    let key = entry.key;
-    let pattern = key.pattern;
-    if !pattern.is_clear() {
-        return RowRead::Refused(Refusal::TablesAddressBit(line));
+        return RowRead::Refused(malformed);
     }
     let row = Row {
         switch: switch as u8,
         entry,
     };
-    RowRead::Read(row)
+    let key = entry.key;
+    let pattern = key.pattern;
+    if pattern.is_clear() {
+        return RowRead::Read(row);
+    }
+    RowRead::Refused(Refusal::TablesAddressBit(line))
 }

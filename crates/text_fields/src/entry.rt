@@ -1,14 +1,17 @@
-// An action, a key and an entry, read from a place of a text.
+// An action, a key and an entry, read from a place of a line. Where a field has no value, the line is refused: as `malformed`,
+// which has its number.
 use crate::matching::MatchRead;
 use crate::matching::match_at;
 use flow::Action;
 use flow::Entry;
 use flow::Key;
+use refusals::Refusal;
 use text_numbers::Number;
 use text_numbers::number_at;
 use text_numbers::starts_with;
 ghost use mathlib.Core.Path.{_≡_};
 ghost use Rattle.basics.specs.Text.{bytes};
+ghost use Rattle.refusals.specs.Checks.{refuseNone};
 ghost use Rattle.text_numbers.specs.Reading.{keyed};
 ghost use Rattle.text_fields.specs.Read.{readAction, readKey, readEntry};
 ghost use Rattle.text_fields.specs.Inner.{asAction, asKey, asEntry};
@@ -19,16 +22,16 @@ pub enum ActionRead {
     Bad,
 }
 
-// A key that was read and the place after it, or no key.
+// A key that was read and the place after it, or the refusal of the line.
 pub enum KeyRead {
     Read { value: Key, next: usize },
-    Bad,
+    Refused(Refusal),
 }
 
-// An entry that was read and the place after it, or no entry.
+// An entry that was read and the place after it, or the refusal of the line.
 pub enum EntryRead {
     Read { value: Entry, next: usize },
-    Bad,
+    Refused(Refusal),
 }
 
 // `drop`, `ctl` or `pN`.
@@ -67,14 +70,14 @@ pub fn action_at(s: &[u8], at: usize) -> ActionRead
 }
 
 // Priority, then match.
-pub fn key_at(s: &[u8], at: usize) -> KeyRead
-    ensures { λ r. ⌜ asKey r ≡ readKey (now (s .entry)) at ⌝ }
+pub fn key_at(s: &[u8], at: usize, malformed: Refusal) -> KeyRead
+    ensures { λ r. ⌜ asKey r ≡ refuseNone (readKey (now (s .entry)) at) malformed ⌝ }
 {
     let Number::Read { value: n, next } = number_at(s, at, b" prio=", 65535) else {
-        return KeyRead::Bad;
+        return KeyRead::Refused(malformed);
     };
-    let MatchRead::Read { value: m, next } = match_at(s, next) else {
-        return KeyRead::Bad;
+    let MatchRead::Read { value: m, next } = match_at(s, next, malformed) else {
+        return KeyRead::Refused(malformed);
     };
     let value = Key {
         priority: n,
@@ -84,18 +87,18 @@ pub fn key_at(s: &[u8], at: usize) -> KeyRead
 }
 
 // Key, then action.
-pub fn entry_at(s: &[u8], at: usize) -> EntryRead
-    ensures { λ r. ⌜ asEntry r ≡ readEntry (now (s .entry)) at ⌝ }
+pub fn entry_at(s: &[u8], at: usize, malformed: Refusal) -> EntryRead
+    ensures { λ r. ⌜ asEntry r ≡ refuseNone (readEntry (now (s .entry)) at) malformed ⌝ }
 {
-    let KeyRead::Read { value: key, next } = key_at(s, at) else {
-        return EntryRead::Bad;
+    let KeyRead::Read { value: key, next } = key_at(s, at, malformed) else {
+        return EntryRead::Refused(malformed);
     };
     let ActionRead::Read {
         value: action,
         next,
     } = action_at(s, next)
     else {
-        return EntryRead::Bad;
+        return EntryRead::Refused(malformed);
     };
     let value = Entry { key, action };
     EntryRead::Read { value, next }

@@ -1,4 +1,5 @@
-// The six fields of a match and of a packet, read from a place of a text.
+// The six fields of a match and of a packet, read from a place of a line. Where a field has no value, the line is refused: as
+// `malformed`, which has its number.
 use crate::field::ExactRead;
 use crate::field::PrefixRead;
 use crate::field::exact_at;
@@ -7,56 +8,65 @@ use flow::Exact;
 use flow::Match;
 use flow::Packet;
 use flow::Prefix;
+use refusals::Refusal;
 use text_numbers::Hex;
 use text_numbers::Number;
 use text_numbers::hex_at;
 use text_numbers::number_at;
 ghost use mathlib.Core.Path.{_≡_};
+ghost use Rattle.refusals.specs.Checks.{refuseNone};
 ghost use Rattle.text_numbers.specs.Number.{readNumber};
 ghost use Rattle.text_numbers.specs.Reading.{mapped};
 ghost use Rattle.text_fields.specs.Read.{readExact, readLast, matchFrom, packetFrom, readMatch, readPacket};
 ghost use Rattle.text_fields.specs.Inner.{asMatch, asPacket};
 
-// A match that was read and the place after it, or no match.
+// A match that was read and the place after it, or the refusal of the line.
 pub enum MatchRead {
     Read { value: Match, next: usize },
-    Bad,
+    Refused(Refusal),
 }
 
-// A packet that was read and the place after it, or no packet.
+// A packet that was read and the place after it, or the refusal of the line.
 pub enum PacketRead {
     Read { value: Packet, next: usize },
-    Bad,
+    Refused(Refusal),
 }
 
 // The six fields of a match.
-pub fn match_at(s: &[u8], at: usize) -> MatchRead
-    ensures { λ r. ⌜ asMatch r ≡ readMatch (now (s .entry)) at ⌝ }
+pub fn match_at(s: &[u8], at: usize, malformed: Refusal) -> MatchRead
+    ensures { λ r. ⌜ asMatch r ≡ refuseNone (readMatch (now (s .entry)) at) malformed ⌝ }
 {
     let ExactRead::Read { value: port, next } = exact_at(s, at, b" port=", 65535) else {
-        return MatchRead::Bad;
+        return MatchRead::Refused(malformed);
     };
     let PrefixRead::Read { value: src, next } = prefix_at(s, next, b" src=") else {
-        return MatchRead::Bad;
+        return MatchRead::Refused(malformed);
     };
     let PrefixRead::Read { value: dst, next } = prefix_at(s, next, b" dst=") else {
-        return MatchRead::Bad;
+        return MatchRead::Refused(malformed);
     };
-    match_behind(s, next, port, src, dst)
+    match_behind(s, next, malformed, port, src, dst)
 }
 
 // The last three fields of a match, behind the first three.
-fn match_behind(s: &[u8], at: usize, port: Exact, src: Prefix, dst: Prefix) -> MatchRead
-    ensures { λ r. ⌜ asMatch r ≡ mapped (λ p. matchFrom (port, (src, (dst, p)))) (readLast readExact) (now (s .entry)) at ⌝ }
+fn match_behind(
+    s: &[u8],
+    at: usize,
+    malformed: Refusal,
+    port: Exact,
+    src: Prefix,
+    dst: Prefix,
+) -> MatchRead
+    ensures { λ r. ⌜ asMatch r ≡ refuseNone (mapped (λ p. matchFrom (port, (src, (dst, p)))) (readLast readExact) (now (s .entry)) at) malformed ⌝ }
 {
     let ExactRead::Read { value: proto, next } = exact_at(s, at, b" proto=", 255) else {
-        return MatchRead::Bad;
+        return MatchRead::Refused(malformed);
     };
     let ExactRead::Read { value: sport, next } = exact_at(s, next, b" sport=", 65535) else {
-        return MatchRead::Bad;
+        return MatchRead::Refused(malformed);
     };
     let ExactRead::Read { value: dport, next } = exact_at(s, next, b" dport=", 65535) else {
-        return MatchRead::Bad;
+        return MatchRead::Refused(malformed);
     };
     let value = Match {
         port,
@@ -70,33 +80,40 @@ fn match_behind(s: &[u8], at: usize, port: Exact, src: Prefix, dst: Prefix) -> M
 }
 
 // The six fields of a packet, all exact.
-pub fn packet_at(s: &[u8], at: usize) -> PacketRead
-    ensures { λ r. ⌜ asPacket r ≡ readPacket (now (s .entry)) at ⌝ }
+pub fn packet_at(s: &[u8], at: usize, malformed: Refusal) -> PacketRead
+    ensures { λ r. ⌜ asPacket r ≡ refuseNone (readPacket (now (s .entry)) at) malformed ⌝ }
 {
     let Number::Read { value: port, next } = number_at(s, at, b" port=", 65535) else {
-        return PacketRead::Bad;
+        return PacketRead::Refused(malformed);
     };
     let Hex::Read { value: src, next } = hex_at(s, next, b" src=") else {
-        return PacketRead::Bad;
+        return PacketRead::Refused(malformed);
     };
     let Hex::Read { value: dst, next } = hex_at(s, next, b" dst=") else {
-        return PacketRead::Bad;
+        return PacketRead::Refused(malformed);
     };
-    packet_behind(s, next, port, src, dst)
+    packet_behind(s, next, malformed, port, src, dst)
 }
 
 // The last three fields of a packet, behind the first three.
-fn packet_behind(s: &[u8], at: usize, port: u16, src: u32, dst: u32) -> PacketRead
-    ensures { λ r. ⌜ asPacket r ≡ mapped (λ p. packetFrom (port, (src, (dst, p)))) (readLast readNumber) (now (s .entry)) at ⌝ }
+fn packet_behind(
+    s: &[u8],
+    at: usize,
+    malformed: Refusal,
+    port: u16,
+    src: u32,
+    dst: u32,
+) -> PacketRead
+    ensures { λ r. ⌜ asPacket r ≡ refuseNone (mapped (λ p. packetFrom (port, (src, (dst, p)))) (readLast readNumber) (now (s .entry)) at) malformed ⌝ }
 {
     let Number::Read { value: proto, next } = number_at(s, at, b" proto=", 255) else {
-        return PacketRead::Bad;
+        return PacketRead::Refused(malformed);
     };
     let Number::Read { value: sport, next } = number_at(s, next, b" sport=", 65535) else {
-        return PacketRead::Bad;
+        return PacketRead::Refused(malformed);
     };
     let Number::Read { value: dport, next } = number_at(s, next, b" dport=", 65535) else {
-        return PacketRead::Bad;
+        return PacketRead::Refused(malformed);
     };
     let value = Packet {
         port,

@@ -1,8 +1,9 @@
 -- Inner: what the code's answers say.
-use mathlib.Core.Option.{Option, none, some}
+use mathlib.Core.Logic.{inl, inr}
 use Prim.Native.Nat.{ℕ}
+use Rattle.refusals.specs.Checks.{Checked}
 use Rattle.trace_head.specs.Types.{Head, HeadRead}
 
-abbrev pub asHead : HeadRead → Option (Head × ℕ)
-asHead (HeadRead.Read h n) = some (h, n)
-asHead HeadRead.Bad = none
+abbrev pub asHead : HeadRead → Checked (Head × ℕ)
+asHead (HeadRead.Read h n) = inr (h, n)
+asHead (HeadRead.Refused f) = inl f

@@ -26,11 +26,12 @@ pub enum EventRead {
 pub fn event_line(s: &[u8], line: usize) -> EventRead
     ensures { λ r. ⌜ asEvent r ≡ readEvent line (now (s .entry)) ⌝ }
 {
+    let malformed = Refusal::TraceMalformed(line);
     let Number::Read { value: ev, next } = number_at(s, 0, b"ev=", 255) else {
-        return EventRead::Refused(Refusal::TraceMalformed(line));
+        return EventRead::Refused(malformed);
     };
     let WordRead::Read { value: word, next } = word_at(s, next) else {
-        return EventRead::Refused(Refusal::TraceMalformed(line));
+        return EventRead::Refused(malformed);
     };
     event_behind(s, next, line, ev as usize, word)
 }
@@ -39,11 +40,12 @@ pub fn event_line(s: &[u8], line: usize) -> EventRead
 fn event_behind(s: &[u8], at: usize, line: usize, number: usize, word: Word) -> EventRead
     ensures { λ r. ⌜ asEvent r ≡ onLine line (atEnd (now (s .entry)) (mapped (λ p. (number, eventOf p)) (readParts word) (now (s .entry)) at)) ⌝ }
 {
-    let HeadRead::Read { value: head, next } = head_at(s, at) else {
-        return EventRead::Refused(Refusal::TraceMalformed(line));
+    let malformed = Refusal::TraceMalformed(line);
+    let HeadRead::Read { value: head, next } = head_at(s, at, malformed) else {
+        return EventRead::Refused(malformed);
     };
-    let OperationRead::Read { value: op, next } = operation_at(s, next, word) else {
-        return EventRead::Refused(Refusal::TraceMalformed(line));
+    let OperationRead::Read { value: op, next } = operation_at(s, next, malformed, word) else {
+        return EventRead::Refused(malformed);
     };
     let event = Event {
         head,

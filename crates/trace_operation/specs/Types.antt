@@ -6,6 +6,7 @@ pub use Rattle.flow.specs.declared.entry.Entry.{Entry}
 pub use Rattle.flow_table.specs.declared.operation.TableOperation.{TableOperation}
 pub use Rattle.flow_table.specs.declared.operation.Operation.{Operation}
 pub use Rattle.flow_table.specs.declared.carried.Carried.{Carried}
+pub use Rattle.refusals.specs.declared.refusal.Refusal.{Refusal}
 pub use Rattle.trace_words.specs.declared.word.Word.{Word}
 pub use Rattle.trace_words.specs.declared.word.SwitchWord.{SwitchWord}
 pub use Rattle.trace_words.specs.declared.word.Write.{Write}

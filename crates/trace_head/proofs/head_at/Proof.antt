@@ -1,4 +1,5 @@
 use borrow.Author.Needs.{needs}
+use Rattle.refusals.proofs.Checks.{or-refused}
 use Rattle.text_numbers.proofs.Readers.{seen, mapped-none, mapped-some, both-none, both-some}
 use Rattle.trace_tokens.specs.Inner.{asTokens}
 use Rattle.trace_head.specs.Heads.{readHead}
@@ -10,11 +11,11 @@ unfolding readHead
 head-at-spec =
     tie.close
     (tie.spec (λ c. search needs) (λ c κs. search needs) (λ c. search needs) (λ c. search needs)
-    (λ c. both-none _ _ _ _ _ (seen asTokens (c .before .before .tokens-at .ensures) (c .enum-told .given .1))) (λ c. search needs) (λ c κs. search needs) (λ c. search needs) (λ c. search needs)
+    (λ c. or-refused _ (both-none _ _ _ _ _ (seen asTokens (c .before .before .tokens-at .ensures) (c .enum-told .given .1)))) (λ c. search needs) (λ c κs. search needs) (λ c. search needs) (λ c. search needs)
     (λ c. let ins = c .before .before .before .before .before in
-    both-some _ _ _ _ _ (seen asTokens (ins .before .before .tokens-at .ensures) (ins .ins .given .1))
-    (mapped-none _ _ _ _ (seen asTokens (c .before .before .tokens-at2 .ensures) (c .enum-told2 .given .1))))
+    or-refused _ (both-some _ _ _ _ _ (seen asTokens (ins .before .before .tokens-at .ensures) (ins .ins .given .1))
+    (mapped-none _ _ _ _ (seen asTokens (c .before .before .tokens-at2 .ensures) (c .enum-told2 .given .1)))))
     (λ c. let outs = c .before in
     let ins = outs .before .before .before .before .before in
-    both-some _ _ _ _ _ (seen asTokens (ins .before .before .tokens-at .ensures) (ins .ins .given .1))
-    (mapped-some _ _ _ _ (seen asTokens (outs .before .before .tokens-at2 .ensures) (outs .outs .given .1)))))
+    or-refused _ (both-some _ _ _ _ _ (seen asTokens (ins .before .before .tokens-at .ensures) (ins .ins .given .1))
+    (mapped-some _ _ _ _ (seen asTokens (outs .before .before .tokens-at2 .ensures) (outs .outs .given .1))))))

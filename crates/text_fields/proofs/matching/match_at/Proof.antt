@@ -1,4 +1,6 @@
+use mathlib.Core.Path.{refl}
 use borrow.Author.Needs.{needs}
+use Rattle.refusals.proofs.Checks.{or-refused, carried-on}
 use Rattle.text_numbers.proofs.Readers.{seen, both-none, both-some}
 use Rattle.text_fields.specs.Read.{readSix, readMatch}
 use Rattle.text_fields.specs.Inner.{asExact, asPrefix}
@@ -11,22 +13,21 @@ match-at-spec =
     tie.close
     (tie.spec
     (λ c. search needs) (λ c κs. search needs) (λ c. search needs) (λ c. search needs)
-    (λ c. both-none _ _ _ _ _ (seen asExact (c .before .before .exact-at .ensures) (c .enum-told .given .1)))
+    (λ c. or-refused _ (both-none _ _ _ _ _ (seen asExact (c .before .before .exact-at .ensures) (c .enum-told .given .1))))
     (λ c. search needs) (λ c κs. search needs) (λ c. search needs) (λ c. search needs)
     (λ c. let p = c .before .before .before .before .before in
-    both-some _ _ _ _ _ (seen asExact (p .before .before .exact-at .ensures) (p .port .given .1))
-    (both-none _ _ _ _ _ (seen asPrefix (c .before .before .prefix-at .ensures) (c .enum-told2 .given .1))))
+    or-refused _ (both-some _ _ _ _ _ (seen asExact (p .before .before .exact-at .ensures) (p .port .given .1))
+    (both-none _ _ _ _ _ (seen asPrefix (c .before .before .prefix-at .ensures) (c .enum-told2 .given .1)))))
     (λ c. search needs) (λ c κs. search needs) (λ c. search needs) (λ c. search needs)
     (λ c. let q = c .before .before .before .before .before in
     let p = q .before .before .before .before .before in
-    both-some _ _ _ _ _ (seen asExact (p .before .before .exact-at .ensures) (p .port .given .1))
+    or-refused _ (both-some _ _ _ _ _ (seen asExact (p .before .before .exact-at .ensures) (p .port .given .1))
     (both-some _ _ _ _ _ (seen asPrefix (q .before .before .prefix-at .ensures) (q .src .given .1))
-    (both-none _ _ _ _ _ (seen asPrefix (c .before .before .prefix-at2 .ensures) (c .enum-told3 .given .1)))))
+    (both-none _ _ _ _ _ (seen asPrefix (c .before .before .prefix-at2 .ensures) (c .enum-told3 .given .1))))))
     (λ c κs. search needs)
     (λ c. let d = c .before .before in
     let q = d .before .before .before .before .before in
     let p = q .before .before .before .before .before in
-    both-some _ _ _ _ _ (seen asExact (p .before .before .exact-at .ensures) (p .port .given .1))
+    carried-on _ (c .match-behind .ensures) (both-some _ _ _ _ _ (seen asExact (p .before .before .exact-at .ensures) (p .port .given .1))
     (both-some _ _ _ _ _ (seen asPrefix (q .before .before .prefix-at .ensures) (q .src .given .1))
-    (both-some _ _ _ _ _ (seen asPrefix (d .before .before .prefix-at2 .ensures) (d .dst .given .1))
-    (c .match-behind .ensures)))))
+    (both-some _ _ _ _ _ (seen asPrefix (d .before .before .prefix-at2 .ensures) (d .dst .given .1)) refl)))))

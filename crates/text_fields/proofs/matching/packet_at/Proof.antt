@@ -1,4 +1,6 @@
+use mathlib.Core.Path.{refl}
 use borrow.Author.Needs.{needs}
+use Rattle.refusals.proofs.Checks.{or-refused, carried-on}
 use Rattle.text_numbers.proofs.Readers.{seen, both-none, both-some}
 use Rattle.text_numbers.specs.Inner.{asNumber, asHex}
 use Rattle.text_fields.specs.Read.{readSix, readPacket}
@@ -11,22 +13,21 @@ packet-at-spec =
     tie.close
     (tie.spec
     (λ c. search needs) (λ c κs. search needs) (λ c. search needs) (λ c. search needs)
-    (λ c. both-none _ _ _ _ _ (seen asNumber (c .before .before .number-at .ensures) (c .enum-told .given .1)))
+    (λ c. or-refused _ (both-none _ _ _ _ _ (seen asNumber (c .before .before .number-at .ensures) (c .enum-told .given .1))))
     (λ c. search needs) (λ c κs. search needs) (λ c. search needs) (λ c. search needs)
     (λ c. let p = c .before .before .before .before .before in
-    both-some _ _ _ _ _ (seen asNumber (p .before .before .number-at .ensures) (p .port .given .1))
-    (both-none _ _ _ _ _ (seen asHex (c .before .before .hex-at .ensures) (c .enum-told2 .given .1))))
+    or-refused _ (both-some _ _ _ _ _ (seen asNumber (p .before .before .number-at .ensures) (p .port .given .1))
+    (both-none _ _ _ _ _ (seen asHex (c .before .before .hex-at .ensures) (c .enum-told2 .given .1)))))
     (λ c. search needs) (λ c κs. search needs) (λ c. search needs) (λ c. search needs)
     (λ c. let q = c .before .before .before .before .before in
     let p = q .before .before .before .before .before in
-    both-some _ _ _ _ _ (seen asNumber (p .before .before .number-at .ensures) (p .port .given .1))
+    or-refused _ (both-some _ _ _ _ _ (seen asNumber (p .before .before .number-at .ensures) (p .port .given .1))
     (both-some _ _ _ _ _ (seen asHex (q .before .before .hex-at .ensures) (q .src .given .1))
-    (both-none _ _ _ _ _ (seen asHex (c .before .before .hex-at2 .ensures) (c .enum-told3 .given .1)))))
+    (both-none _ _ _ _ _ (seen asHex (c .before .before .hex-at2 .ensures) (c .enum-told3 .given .1))))))
     (λ c κs. search needs)
     (λ c. let d = c .before .before in
     let q = d .before .before .before .before .before in
     let p = q .before .before .before .before .before in
-    both-some _ _ _ _ _ (seen asNumber (p .before .before .number-at .ensures) (p .port .given .1))
+    carried-on _ (c .packet-behind .ensures) (both-some _ _ _ _ _ (seen asNumber (p .before .before .number-at .ensures) (p .port .given .1))
     (both-some _ _ _ _ _ (seen asHex (q .before .before .hex-at .ensures) (q .src .given .1))
-    (both-some _ _ _ _ _ (seen asHex (d .before .before .hex-at2 .ensures) (d .dst .given .1))
-    (c .packet-behind .ensures)))))
+    (both-some _ _ _ _ _ (seen asHex (d .before .before .hex-at2 .ensures) (d .dst .given .1)) refl)))))

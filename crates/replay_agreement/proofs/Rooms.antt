@@ -1,6 +1,6 @@
 -- Buffers of these lengths are never too short: 26,880 bytes for a normal text (`normal-room`), 53,760 for end tables (`tables-room`),
--- 7,168 for answers (`answers-room`), 65,280 for a list (`list-room`). A line of a table has at most 105 bytes, an answer line 28.
--- Assumes nothing.
+-- 7,168 for answers (`answers-room`), 65,280 for a list (`list-room`). A line of a table has at most 105 bytes, an answer line 28,
+-- and there are such lines (`row-longest`, `answer-longest`). Assumes nothing.
 use mathlib.Core.Path.{_≡_, refl, ap, subst}
 use mathlib.Core.Bool.{Bool, true, false, cond}
 use mathlib.Core.Logic.{inr}
@@ -12,13 +12,15 @@ use native.Mathlib.Omega.{arith}
 use lib.Dec.{eqb}
 use lib.ListN.{length, length-append}
 use Rattle.basics.specs.Text.{bytes}
-use Rattle.text_numbers.specs.Print.{printNumber}
+use Rattle.text_numbers.specs.Print.{decimal, printNumber, hexDigit, hexadecimal, printHex}
 use Rattle.text_numbers.proofs.Print.{print-short}
+use Rattle.text_fields.specs.Types.{Exact, Prefix, Match}
+use Rattle.text_fields.specs.Print.{printExact, printPrefix, printLast, printSix, printMatch, printAction, printKey, printEntry}
 use Rattle.text_put_fields.proofs.Lengths.{action-most, entry-most}
 use Rattle.text_lines.specs.Lines.{unlines}
-use Rattle.flow_table.specs.FlowTable.{TableInRange}
+use Rattle.flow_table.specs.FlowTable.{TableInRange, entry}
 use Rattle.order_meaning.specs.Tables.{endTables, answers}
-use Rattle.rows.specs.Rows.{tableOf, tablesOf}
+use Rattle.rows.specs.Rows.{row, tableOf, tablesOf}
 use Rattle.rows.proofs.TablesOf.{row-entry}
 use Rattle.list_pairs.specs.List.{listOf, pairBytes}
 use Rattle.list_pairs.proofs.PairLaws.{bytes-length}
@@ -38,10 +40,28 @@ use Rattle.replay_answers.specs.Answers.{printItem, isSilent, printAnswer, answ
 use Rattle.replay_call.specs.Replay.{answerLines}
 use Rattle.replay_call.proofs.RowsAreTables.{events-in-range, end-beyond, end-text, end-count}
 use Rattle.replay_call.proofs.Theorems.{never-41}
-use Rattle.replay_agreement.specs.Types.{Answer, Event, Row}
+use Rattle.replay_agreement.specs.Types.{Action, Answer, Event, Row}
 use Rattle.replay_agreement.specs.Buffers.{LongEnough}
 use Rattle.replay_agreement.proofs.InRange.{AnswerShort, Short, end-in-range, answers-short, table-in-range, entry-in-range}
 use Rattle.replay_agreement.proofs.Demand3.{room-enough}
+
+-- ---- the longest lines
+abbrev longestRow : Row
+longestRow =
+    let address : Prefix = record { value = 4294967295; length = 32 } in
+    let port = Exact.Is 65535 in
+    let pattern : Match = record { port = port; src = address; dst = address; proto = Exact.Is 255; sport = port; dport = port } in
+    row 15 (entry (record { priority = 65535; pattern = pattern }) (Action.Port 65535))
+
+-- 104 bytes, and its LF
+pub row-longest : printRow longestRow ≡ bytes "sw=15 prio=65535 port=65535 src=ffffffff/32 dst=ffffffff/32 proto=255 sport=65535 dport=65535 act=p65535"
+unfolding printRow printEntry printKey printMatch printSix printLast printExact printPrefix printAction printNumber decimal printHex hexadecimal hexDigit
+row-longest = refl
+
+-- 28 bytes
+pub answer-longest : printAnswer 255 (Answer.Hit 65535 511 (Action.Port 65535)) ≡ bytes "ev=255 hit=65535,511,p65535\n"
+unfolding printAnswer printItem printAction printNumber decimal
+answer-longest = refl
 
 -- ---- lines of tables
 row-most : (r : Row) → RowInRange r → length (printRow r) ≤ 104

@@ -5,6 +5,7 @@ pub mod ExactField
 pub mod MaskedField
 pub mod PrefixField
 pub mod Matches
+pub mod Fits
 pub mod Leading
 pub mod Orders
 pub mod Entries

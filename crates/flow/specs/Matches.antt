@@ -1,8 +1,8 @@
--- Document 01, "Matches": which packets fit a match, overlap, within. Each test is pinned by what it stands for: `Overlap`
--- and `LiesWithin` below, with the theorems in proofs/Matches.antt.
+-- Document 01, "Matches": which packets fit a match, overlap, within. Each test is pinned by what it stands for: `FitsAll`,
+-- `Overlap` and `LiesWithin` below, with the theorems in proofs/Fits.antt and proofs/Matches.antt.
 use mathlib.Core.Path.{_≡_}
 use mathlib.Core.Bool.{Bool, true, false, _&&_}
-use Prim.Native.Nat.{ℕ, _-_, _^_, _≤_, _<_}
+use Prim.Native.Nat.{ℕ, _-_, _/_, _^_, _≤_, _<_}
 use lib.Dec.{eqb}
 use lib.Bits.{bitAnd}
 use Rattle.flow.specs.Types.{Exact, Prefix, Match, Packet}
@@ -115,6 +115,25 @@ pub record PacketInRange (p : Packet) : Type 0 where
   pub proto : p .proto < 256
   pub sport : p .sport < 65536
   pub dport : p .dport < 65536
+
+-- ---- in words (proofs/Fits.antt, `fits-iff`; proofs/Matches.antt)
+-- `*` admits all, a number itself
+pub data Admits : Exact → ℕ → Type 0 where
+  any : {x : ℕ} → Admits Exact.Any x
+  itself : {x : ℕ} → Admits (Exact.Is x) x
+
+-- the address has the prefix's leading bits, as many as its length says
+abbrev pub HasPrefix : Prefix → ℕ → Type 0
+HasPrefix p x = x / 2 ^ (32 - p .length) ≡ p .value / 2 ^ (32 - p .length)
+
+-- a packet fits a match in all six fields
+pub record FitsAll (m : Match) (p : Packet) : Type 0 where
+  pub port : Admits (m .port) (p .port)
+  pub src : HasPrefix (m .src) (p .src)
+  pub dst : HasPrefix (m .dst) (p .dst)
+  pub proto : Admits (m .proto) (p .proto)
+  pub sport : Admits (m .sport) (p .sport)
+  pub dport : Admits (m .dport) (p .dport)
 
 -- two matches overlap if some packet fits both
 abbrev pub Overlap : Match → Match → Type 0

@@ -35,7 +35,7 @@ races-length (p ∷ ps) h =
       races-length ps (λ i j m. h i j (List·Memᴰ·tail m)),
     )
 
-counts-length : (c : Counts) → length (countsLine c) ≤ 75
+counts-length : (c : Counts) → length (countsLine c) ≤ 115
 unfolding countsLine
 counts-length c = simp (length-append, key-number-length) (omega (arith, print-length (c .pairs), print-length (c .ordered), print-length (c .commuting), print-length (c .listed)))
 

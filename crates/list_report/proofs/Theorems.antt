@@ -1,17 +1,13 @@
 -- What `racelist` prints of an accepted trace (`report-lists`) and of a refused one. Assumes nothing.
 use Prim.Native.Nat.{ℕ}
-use native.Mathlib.Omega.{arith}
 use mathlib.Core.Path.{_≡_, ap}
 use mathlib.Core.List.{List, [], _++_}
 use mathlib.Core.Logic.{inl, inr}
 use Rattle.trace_text.specs.TraceText.{readTrace}
 use Rattle.list_pairs.specs.List.{listOf, pairBytes, countsOf, listingOf}
-use Rattle.refusals.specs.Refusals.{placeOf}
-use Rattle.refusals_text.specs.Report.{shown, refusedText}
-use Rattle.refusals_text.proofs.Laws.{shown-small}
+use Rattle.refusals_text.specs.Report.{refusedText}
 use Rattle.list_report.specs.Types.{Event, Refusal}
 use Rattle.list_report.specs.Report.{raceLines, countsLine, listText, textOf, reportText}
-use Rattle.trace_text.proofs.Refused.{refused-place}
 
 -- of an accepted trace a race line for each pair of that list, in its order, and the counts line; of any other the refusal
 pub report-lists : (s : List ℕ) (es : List Event) → readTrace s ≡ inr es → reportText s ≡ raceLines (pairBytes (listOf es)) ++ countsLine (countsOf es)
@@ -21,7 +17,3 @@ report-lists s es h = ap (textOf s) h
 pub report-refuses : (s : List ℕ) (r : Refusal) → readTrace s ≡ inl r → reportText s ≡ refusedText s [] r
 unfolding reportText
 report-refuses s r h = ap (textOf s) h
-
--- the place of a refused trace is printed as it is
-pub report-place : (s : List ℕ) (r : Refusal) → readTrace s ≡ inl r → placeOf r ≡ shown (placeOf r)
-report-place s r h = shown-small (placeOf r) (omega (arith, refused-place s r h))

@@ -17,10 +17,10 @@ ghost use Rattle.list_report.specs.Report.{raceLine, raceLines, countsLi
 fn put_race(out: &mut [u8], at: usize, i: u8, j: u8) -> usize
     requires { ⌜ at < 2 ^ 30 ⌝ }
     ensures { λ r. ⌜ Put (raceLine i j) at (now (out .entry)) r (now (out .exit)) ⌝ }
-    ensures { λ r. ⌜ r ≤ at + 54 ⌝ }
+    ensures { λ r. ⌜ r ≤ at + 74 ⌝ }
 {
-    let a = put_key_number(out, at, b"race=", i as u32);
-    let b = put_key_number(out, a, b",", j as u32);
+    let a = put_key_number(out, at, b"race=", i as usize);
+    let b = put_key_number(out, a, b",", j as usize);
     put_byte(out, b, b'\n');
     b + 1
 }
@@ -45,10 +45,10 @@ fn put_counts(out: &mut [u8], at: usize, c: Counts) -> usize
     requires { ⌜ (at < 2 ^ 30) × Small c ⌝ }
     ensures { λ r. ⌜ Put (countsLine c) at (now (out .entry)) r (now (out .exit)) ⌝ }
 {
-    let p = put_key_number(out, at, b"pairs=", c.pairs as u32);
-    let o = put_key_number(out, p, b" ordered=", c.ordered as u32);
-    let m = put_key_number(out, o, b" commuting=", c.commuting as u32);
-    let l = put_key_number(out, m, b" listed=", c.listed as u32);
+    let p = put_key_number(out, at, b"pairs=", c.pairs);
+    let o = put_key_number(out, p, b" ordered=", c.ordered);
+    let m = put_key_number(out, o, b" commuting=", c.commuting);
+    let l = put_key_number(out, m, b" listed=", c.listed);
     put_byte(out, l, b'\n');
     l + 1
 }

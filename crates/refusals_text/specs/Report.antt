@@ -1,8 +1,6 @@
 -- Document 01, "Program and worked lines": what the programs print of a refusal.
-use mathlib.Core.Bool.{cond}
 use mathlib.Core.List.{List, [], _++_}
 use Prim.Native.Nat.{ℕ}
-use lib.Dec.{ltb}
 use Rattle.basics.specs.Text.{bytes}
 use Rattle.text_numbers.specs.Print.{printNumber}
 use Rattle.refusals.specs.Refusals.{numberOf, placeOf, sourceOf, lineOf}
@@ -12,15 +10,11 @@ use Rattle.refusals_text.specs.Types.{Refusal, Source}
 unfoldable pub keyNumber : List ℕ → ℕ → List ℕ
 keyNumber key n = key ++ printNumber n
 
--- a place as it is printed: as it is, since no text, order or buffer need is near the largest number that is printed
-unfoldable pub shown : ℕ → ℕ
-shown p = cond (ltb p 4294967296) p 4294967295
-
 -- `refused=4 place=2`
 unfoldable pub refusalLine : Refusal → List ℕ
 refusalLine r =
     keyNumber (bytes "refused=") (numberOf r)
-    ++ keyNumber (bytes " place=") (shown (placeOf r))
+    ++ keyNumber (bytes " place=") (placeOf r)
     ++ bytes "\n"
 
 -- the refused line, where there is one

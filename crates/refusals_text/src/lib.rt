@@ -10,45 +10,33 @@ ghost use mathlib.Core.Path.{_≡_};
 ghost use Prim.Native.Nat.{_+_, _≤_, _<_, _^_};
 ghost use lib.ListN.{length};
 ghost use Rattle.text_numbers.specs.Inner.{Put};
-ghost use Rattle.refusals_text.specs.Report.{keyNumber, shown, refusalLine, refusedText};
+ghost use Rattle.refusals_text.specs.Report.{keyNumber, refusalLine, refusedText};
 
 // A key and its number.
-pub fn put_key_number(out: &mut [u8], at: usize, key: &[u8], v: u32) -> usize
+pub fn put_key_number(out: &mut [u8], at: usize, key: &[u8], v: usize) -> usize
     requires { ⌜ (at < 2 ^ 31) × (length (now key) ≤ 16) ⌝ }
     ensures { λ r. ⌜ Put (keyNumber (now (key .entry)) v) at (now (out .entry)) r (now (out .exit)) ⌝ }
-    ensures { λ r. ⌜ r ≤ at + 26 ⌝ }
+    ensures { λ r. ⌜ r ≤ at + 36 ⌝ }
 {
     let n = put_bytes(out, at, key);
     put_number(out, n, v)
 }
 
-// A place as it is printed.
-fn shown(place: usize) -> u32
-    ensures { λ r. ⌜ r ≡ shown place ⌝ }
-{
-    if place < 4294967296 {
-        place as u32
-    } else {
-        4294967295
-    }
-}
-
 // `refused=4 place=2`
 fn put_refusal(out: &mut [u8], refusal: Refusal) -> usize
     ensures { λ r. ⌜ Put (refusalLine refusal) 0 (now (out .entry)) r (now (out .exit)) ⌝ }
-    ensures { λ r. ⌜ r ≤ 54 ⌝ }
+    ensures { λ r. ⌜ r ≤ 74 ⌝ }
 {
     let returned = refusal.returned();
-    let p = shown(returned.place);
-    let n = put_key_number(out, 0, b"refused=", returned.number as u32);
-    let m = put_key_number(out, n, b" place=", p);
+    let n = put_key_number(out, 0, b"refused=", returned.number as usize);
+    let m = put_key_number(out, n, b" place=", returned.place);
     put_byte(out, m, b'\n');
     m + 1
 }
 
 // A line and its LF.
 fn put_line(out: &mut [u8], at: usize, line: &[u8]) -> usize
-    requires { ⌜ (at ≤ 54) × (length (now line) < 2 ^ 63) ⌝ }
+    requires { ⌜ (at ≤ 74) × (length (now line) < 2 ^ 63) ⌝ }
     ensures { λ r. ⌜ Put (now (line .entry) ++ (10 ∷ [])) at (now (out .entry)) r (now (out .exit)) ⌝ }
 {
     let n = put_bytes(out, at, line);

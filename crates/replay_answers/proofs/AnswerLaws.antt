@@ -25,7 +25,7 @@ none-kept (suc n) zero = refl
 none-kept (suc n) (suc i) = none-kept n i
 
 -- ---- how long
-pub item-length : (a : Answer) → length (printItem a) ≤ 38
+pub item-length : (a : Answer) → length (printItem a) ≤ 68
 unfolding printItem
 item-length Answer.Silent = omega arith
 item-length Answer.Miss = omega arith
@@ -33,16 +33,16 @@ item-length (Answer.Hit priority count a) = simp length-append (omega (arith, pr
 item-length (Answer.Done true) = omega arith
 item-length (Answer.Done false) = omega arith
 
-pub answer-length : (i : ℕ) (a : Answer) → length (printAnswer i a) ≤ 52
+pub answer-length : (i : ℕ) (a : Answer) → length (printAnswer i a) ≤ 92
 unfolding printAnswer
 answer-length i a = go (isSilent a)
   where
-    go : (b : Bool) → length (cond b [] (bytes "ev=" ++ (printNumber i ++ (printItem a ++ bytes "\n")))) ≤ 52
+    go : (b : Bool) → length (cond b [] (bytes "ev=" ++ (printNumber i ++ (printItem a ++ bytes "\n")))) ≤ 92
     go true = omega arith
     go false = simp length-append (omega (arith, print-length i, item-length a))
 
 module _ (f : ℕ → Answer) where
-  pub text-length : (n : ℕ) → length (answersText f n) ≤ 52 * n
+  pub text-length : (n : ℕ) → length (answersText f n) ≤ 92 * n
   unfolding answersText
   text-length zero = omega arith
   text-length (suc n) = simp length-append (omega (arith, text-length n, answer-length n (f n)))

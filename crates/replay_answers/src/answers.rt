@@ -29,9 +29,9 @@ fn put_hit(out: &mut [u8], at: usize, priority: u16, count: u16, action: Action)
     ensures { λ r. ⌜ Put (printItem (Answer.Hit priority count action)) at (now (out .entry)) r (now (out .exit)) ⌝ }
 {
     let a = put_bytes(out, at, b" hit=");
-    let b = put_number(out, a, priority as u32);
+    let b = put_number(out, a, priority as usize);
     let c = put_bytes(out, b, b",");
-    let d = put_number(out, c, count as u32);
+    let d = put_number(out, c, count as usize);
     let e = put_bytes(out, d, b",");
     put_action(out, e, action)
 }
@@ -64,7 +64,7 @@ fn put_answer(out: &mut [u8], at: usize, ev: u8, answer: Answer) -> usize
         return at;
     }
     let a = put_bytes(out, at, b"ev=");
-    let b = put_number(out, a, ev as u32);
+    let b = put_number(out, a, ev as usize);
     let c = put_item(out, b, answer);
     put_bytes(out, c, b"\n")
 }

@@ -56,7 +56,7 @@ put-from {w} {xs} {rest} {at} {from} p q =
     }
 
 -- ---- the text of rows
-row-length : (r : Row) → length (printRow r) ≤ 160
+row-length : (r : Row) → length (printRow r) ≤ 250
 unfolding printRow
 row-length r = simp length-append (omega (arith, print-length (r .switch), entry-length (r .entry)))
 
@@ -65,13 +65,13 @@ unfolding normalText unlines
 normal-snoc [] r = refl
 normal-snoc (x ∷ rs) r = ap (λ (l : List ℕ). printRow x ++ 10 ∷ l) (normal-snoc rs r) ∙ sym (append-assoc (printRow x) (10 ∷ normalText rs) (printRow r ++ bytes "\n"))
 
-pub normal-length : (rs : List Row) → length (normalText rs) ≤ 161 * length rs
+pub normal-length : (rs : List Row) → length (normalText rs) ≤ 251 * length rs
 unfolding normalText unlines
 normal-length [] = omega arith
 normal-length (r ∷ rs) = simp length-append (omega (arith, row-length r, normal-length rs))
 
 -- ---- the loop over the rows, the first i of the first n written
-pub line-room : (r : Row) (xs : List ℕ) (n : ℕ) (ys : List ℕ) → Put (printRow r ++ bytes "\n") 0 xs n ys → n ≤ 161
+pub line-room : (r : Row) (xs : List ℕ) (n : ℕ) (ys : List ℕ) → Put (printRow r ++ bytes "\n") 0 xs n ys → n ≤ 251
 line-room r xs n ys p = omega (arith, p .after, length-append (printRow r) (bytes "\n"), row-length r)
 
 module _ (l : List Row) (n : ℕ) where

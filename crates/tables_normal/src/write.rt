@@ -20,7 +20,7 @@ fn put_row(rest: &mut [u8], row: Row) -> usize
 {
     let entry = row.entry;
     let a = put_bytes(rest, 0, b"sw=");
-    let b = put_number(rest, a, row.switch as u32);
+    let b = put_number(rest, a, row.switch as usize);
     let c = put_entry(rest, b, entry);
     put_bytes(rest, c, b"\n")
 }

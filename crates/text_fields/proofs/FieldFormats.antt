@@ -24,7 +24,7 @@ abbrev NumberIn : ℕ → Exact → Type 0
 NumberIn w Exact.Any = ⊥
 NumberIn w (Exact.Is v) = v < w
 
-module _ (max : ℕ) (h : max < 10 ^ 10) where
+module _ (max : ℕ) (h : max < 10 ^ 20) where
   to : (x : Exact) → NumberIn (max + 1) x → (exactPoint x ≤ max) × (Exact.Is (exactPoint x) ≡ x)
   to Exact.Any o = absurd o
   to (Exact.Is v) o = (omega arith, refl)

@@ -25,7 +25,7 @@ packet-follows p rest e = space-ends _
 
 -- the six fields, by the formats of a number at most so large and of an address
 module _ {N A : Type 0} {okN : ℕ → N → Type 0} {okA : A → Type 0} {number : N → List ℕ} {address : A → List ℕ} {readN : ℕ → Reader N} {readA : Reader A}
-    (numbers : (max : ℕ) → max < 10 ^ 10 → Format (okN max) number (readN max)) (addresses : Format okA address readA) where
+    (numbers : (max : ℕ) → max < 10 ^ 20 → Format (okN max) number (readN max)) (addresses : Format okA address readA) where
   six-format : Format
       (λ (p : N × (A × (A × (N × (N × N))))). okN 65535 (p .0) × (okA (p .1 .0) × (okA (p .1 .1 .0) × (okN 255 (p .1 .1 .1 .0) × (okN 65535 (p .1 .1 .1 .1 .0) × okN 65535 (p .1 .1 .1 .1 .1))))))
       (λ p. printSix number address (p .0) (p .1 .0) (p .1 .1 .0) (p .1 .1 .1 .0) (p .1 .1 .1 .1 .0) (p .1 .1 .1 .1 .1))

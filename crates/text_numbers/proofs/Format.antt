@@ -55,7 +55,7 @@ module _ {A : Type 0} {ok : A → Type 0} {print : A → List ℕ} {read : Reade
   keyed-format = record { reads = keyed-reads; only = keyed-only }
 
 -- a number that was read behind a key is as small as its largest
-pub keyed-below : (max bound : ℕ) (key s : List ℕ) (at : ℕ) {v n : ℕ} → max < bound → max < 10 ^ 10 → keyed key (readNumber max) s at ≡ some (v, n) → v < bound
+pub keyed-below : (max bound : ℕ) (key s : List ℕ) (at : ℕ) {v n : ℕ} → max < bound → max < 10 ^ 20 → keyed key (readNumber max) s at ≡ some (v, n) → v < bound
 keyed-below max bound key s at b h e = omega (arith, keyed-format key (number-format max h) .only s at _ _ e .0)
 
 -- ---- the same texts for the values of another type

@@ -114,7 +114,7 @@ first-digit (suc k) v t p h =
           rw (decimal-big k v (omega arith), append-assoc) (first-digit k (v / 10) ((48 + v % 10) ∷ [] ++ t) (omega arith) (omega arith))
     ]
 
-pub number-reads : (max v : ℕ) (s : List ℕ) (at : ℕ) (rest : List ℕ) → v ≤ max → max < 10 ^ 10 → isDigit (getD rest 0 0) ≡ false
+pub number-reads : (max v : ℕ) (s : List ℕ) (at : ℕ) (rest : List ℕ) → v ≤ max → max < 10 ^ 20 → isDigit (getD rest 0 0) ≡ false
     → drop at s ≡ printNumber v ++ rest → readNumber max s at ≡ some (v, at + length (printNumber v))
 unfolding printNumber decimal
 number-reads max zero s at rest m x e h =
@@ -122,20 +122,20 @@ number-reads max zero s at rest m x e h =
     let n : getD s (at + 1) 0 ≡ getD rest 0 0 = sym (getD-drop at s 1 0) ∙ rw h in
     number-zero max s at (digit-is _ (omega arith) (omega arith)) z (rw n e)
 number-reads max (suc v) s at rest m x e h =
-    let f = first-digit 10 (suc v) rest (omega arith) (omega arith) in
+    let f = first-digit 20 (suc v) rest (omega arith) (omega arith) in
     let z : getD s at 0 ≡ getD (printNumber (suc v) ++ rest) 0 0 = here s at ∙ rw h in
     number-digits max s at (digit-is _ (omega (arith, f)) (omega (arith, f))) (λ y. omega (arith, f))
-    ∙ rw h (digits-all max 9 (suc v) rest at m (omega arith))
+    ∙ rw h (digits-all max 19 (suc v) rest at m (omega arith))
     ∙ digits-last max (suc v) rest _ e
 
 -- ---- what reads as a number is its text
-print-snoc : (v b : ℕ) → 1 ≤ v → 48 ≤ b → b ≤ 57 → v * 10 + (b - 48) < 10 ^ 10 → printNumber (v * 10 + (b - 48)) ≡ printNumber v ++ (b ∷ [])
+print-snoc : (v b : ℕ) → 1 ≤ v → 48 ≤ b → b ≤ 57 → v * 10 + (b - 48) < 10 ^ 20 → printNumber (v * 10 + (b - 48)) ≡ printNumber v ++ (b ∷ [])
 print-snoc v b p l h x =
     let q : (v * 10 + (b - 48)) / 10 ≡ v = omega arith in
     let r : 48 + (v * 10 + (b - 48)) % 10 ≡ b = omega arith in
     print-big (v * 10 + (b - 48)) (omega arith) x ∙ rw (q, r)
 
-module _ (max : ℕ) (x : max < 10 ^ 10) (s : List ℕ) (w n : ℕ) where
+module _ (max : ℕ) (x : max < 10 ^ 20) (s : List ℕ) (w n : ℕ) where
   -- the text of v and the bytes t from a place on are the text of w and the bytes from the place n on
   abbrev Whole : ℕ → List ℕ → ℕ → Type 0
   Whole v t at = (w ≤ max) × (printNumber v ++ t ≡ printNumber w ++ drop n s) × (n + length (printNumber v) ≡ at + length (printNumber w))
@@ -176,7 +176,7 @@ module _ (max : ℕ) (x : max < 10 ^ 10) (s : List ℕ) (w n : ℕ) where
         (i .0, c ∙ rw u at (i .1), omega (arith, i .2, ap length u)))
         (λ m p. nothing p) (rw (c, d) at e)
 
-pub number-only : (max : ℕ) (s : List ℕ) (at v n : ℕ) → max < 10 ^ 10 → readNumber max s at ≡ some (v, n)
+pub number-only : (max : ℕ) (s : List ℕ) (at v n : ℕ) → max < 10 ^ 20 → readNumber max s at ≡ some (v, n)
     → (v ≤ max) × (drop at s ≡ printNumber v ++ drop n s) × (n ≡ at + length (printNumber v))
 unfolding readNumber
 number-only max s at v n x e =
@@ -188,7 +188,7 @@ number-only max s at v n x e =
     (λ z e₂. first-other max x s v n at d (eqb-false (getD s at 0) 48 z) e₂) e₁)
     (λ d e₁. nothing e₁) e
 
-pub number-format : (max : ℕ) → max < 10 ^ 10 → Format (λ v. v ≤ max) printNumber (readNumber max)
+pub number-format : (max : ℕ) → max < 10 ^ 20 → Format (λ v. v ≤ max) printNumber (readNumber max)
 number-format max x = record {
   reads = λ v m s at rest e h. number-reads max v s at rest m x (e .digit) h;
   only = λ s at v n e. number-only max s at v n x e;

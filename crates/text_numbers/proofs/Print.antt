@@ -33,11 +33,11 @@ decimal-more (suc k) n h =
 
 pub print-small : (n : ℕ) → n < 10 → printNumber n ≡ (48 + n) ∷ []
 unfolding printNumber
-print-small n h = decimal-small 9 n h
+print-small n h = decimal-small 19 n h
 
-pub print-big : (n : ℕ) → 10 ≤ n → n < 10 ^ 10 → printNumber n ≡ printNumber (n / 10) ++ ((48 + n % 10) ∷ [])
+pub print-big : (n : ℕ) → 10 ≤ n → n < 10 ^ 20 → printNumber n ≡ printNumber (n / 10) ++ ((48 + n % 10) ∷ [])
 unfolding printNumber
-print-big n h l = decimal-big 9 n h ∙ rw (decimal-more 8 (n / 10) (omega arith))
+print-big n h l = decimal-big 19 n h ∙ rw (decimal-more 18 (n / 10) (omega arith))
 
 decimal-length : (k n : ℕ) → length (decimal k n) ≤ k
 unfolding decimal
@@ -48,9 +48,9 @@ decimal-length (suc k) n =
       | no l ↦ let g : 10 ≤ n = omega arith in rw (le-ltb _ _ g, length-append) (omega (arith, decimal-length k (n / 10)))
     ]
 
-pub print-length : (n : ℕ) → length (printNumber n) ≤ 10
+pub print-length : (n : ℕ) → length (printNumber n) ≤ 20
 unfolding printNumber
-print-length n = decimal-length 10 n
+print-length n = decimal-length 20 n
 
 -- a number below 10 ^ k has at most k digits
 decimal-short : (j k n : ℕ) → n < 10 ^ suc k → length (decimal j n) ≤ suc k
@@ -67,7 +67,7 @@ decimal-short (suc j) (suc k) n h =
 
 pub print-short : (k n : ℕ) → n < 10 ^ suc k → length (printNumber n) ≤ suc k
 unfolding printNumber
-print-short k n h = decimal-short 10 k n h
+print-short k n h = decimal-short 20 k n h
 
 -- ---- hexadecimal
 pub hexadecimal-length : (k n : ℕ) → length (hexadecimal k n) ≡ k

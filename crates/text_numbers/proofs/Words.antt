@@ -66,4 +66,4 @@ starts-first k key (b ∷ s) h = rw (ne-eqb b k h)
 
 pub number-apart : (n k : ℕ) (key rest : List ℕ) → k ≤ 47 → startsWith (k ∷ key) (printNumber n ++ rest) ≡ false
 unfolding printNumber
-number-apart n k key rest h = starts-first k key (decimal 10 n ++ rest) (λ e. omega (arith, first-digit 9 n rest))
+number-apart n k key rest h = starts-first k key (decimal 20 n ++ rest) (λ e. omega (arith, first-digit 19 n rest))

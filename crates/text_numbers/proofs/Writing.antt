@@ -49,7 +49,7 @@ module _ (src xs ys : List ℕ) (at i : ℕ) (p : Put (take i src) at xs (at + i
 pub number-small : (v at : ℕ) (xs ys : List ℕ) → v < 10 → ys ≡ set xs at (48 + v) → Put (printNumber v) at xs (at + 1) ys
 number-small v at xs ys h e = rw (print-small v h) (put-one at (48 + v) xs ys e)
 
-pub number-big : (v at n : ℕ) (xs ys zs : List ℕ) → 10 ≤ v → v < 2 ^ 32 → Put (printNumber (v / 10)) at xs n ys → zs ≡ set ys n (48 + v % 10)
+pub number-big : (v at n : ℕ) (xs ys zs : List ℕ) → 10 ≤ v → v < 2 ^ 64 → Put (printNumber (v / 10)) at xs n ys → zs ≡ set ys n (48 + v % 10)
     → Put (printNumber v) at xs (n + 1) zs
 number-big v at n xs ys zs h f p e = rw (print-big v h (omega arith)) (put-then p (put-one n (48 + v % 10) ys zs e))
 

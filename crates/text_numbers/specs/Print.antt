@@ -9,9 +9,9 @@ unfoldable pub decimal : ℕ → ℕ → List ℕ
 decimal zero n = []
 decimal (suc k) n = cond (ltb n 10) ((48 + n) ∷ []) (decimal k (n / 10) ++ ((48 + n % 10) ∷ []))
 
--- a number below 10 ^ 10 in decimal, without leading zeros
+-- a number below 10 ^ 20 in decimal, without leading zeros
 unfoldable pub printNumber : ℕ → List ℕ
-printNumber n = decimal 10 n
+printNumber n = decimal 20 n
 
 -- the hexadecimal digit of a number below 16, `0` to `9` or `a` to `f`
 unfoldable pub hexDigit : ℕ → ℕ

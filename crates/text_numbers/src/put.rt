@@ -29,7 +29,7 @@ pub fn put_bytes(out: &mut [u8], at: usize, src: &[u8]) -> usize
 }
 
 // A number in decimal.
-pub fn put_number(out: &mut [u8], at: usize, v: u32) -> usize
+pub fn put_number(out: &mut [u8], at: usize, v: usize) -> usize
     requires { ⌜ at < 2 ^ 32 ⌝ }
     ensures { λ r. ⌜ Put (printNumber v) at (now (out .entry)) r (now (out .exit)) ⌝ }
 {

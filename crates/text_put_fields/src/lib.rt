@@ -18,12 +18,12 @@ ghost use Rattle.text_fields.specs.Print.{printExact, printPrefix, printMatch, 
 fn put_exact(out: &mut [u8], at: usize, key: &[u8], x: Exact) -> usize
     requires { ⌜ (at < 2 ^ 31) × (length (now key) < 2 ^ 31) ⌝ }
     ensures { λ r. ⌜ Put (now (key .entry) ++ printExact x) at (now (out .entry)) r (now (out .exit)) ⌝ }
-    ensures reach { λ r. ⌜ r ≤ at + length (now (key .entry)) + 10 ⌝ }
+    ensures reach { λ r. ⌜ r ≤ at + length (now (key .entry)) + 20 ⌝ }
 {
     let n = put_bytes(out, at, key);
     match x {
         Exact::Any => put_bytes(out, n, b"*"),
-        Exact::Is(v) => put_number(out, n, v as u32),
+        Exact::Is(v) => put_number(out, n, v as usize),
     }
 }
 
@@ -31,12 +31,12 @@ fn put_exact(out: &mut [u8], at: usize, key: &[u8], x: Exact) -> usize
 fn put_prefix(out: &mut [u8], at: usize, key: &[u8], p: Prefix) -> usize
     requires { ⌜ (at < 2 ^ 31) × (length (now key) < 2 ^ 30) ⌝ }
     ensures { λ r. ⌜ Put (now (key .entry) ++ printPrefix p) at (now (out .entry)) r (now (out .exit)) ⌝ }
-    ensures reach { λ r. ⌜ r ≤ at + length (now (key .entry)) + 19 ⌝ }
+    ensures reach { λ r. ⌜ r ≤ at + length (now (key .entry)) + 29 ⌝ }
 {
     let value = put_bytes(out, at, key);
     let slash = put_hex(out, value, p.value);
     let length = put_bytes(out, slash, b"/");
-    put_number(out, length, p.length as u32)
+    put_number(out, length, p.length as usize)
 }
 
 // The six fields of a match.
@@ -68,7 +68,7 @@ pub fn put_action(out: &mut [u8], at: usize, a: Action) -> usize
         Action::Controller => put_bytes(out, at, b"ctl"),
         Action::Port(v) => {
             let n = put_bytes(out, at, b"p");
-            put_number(out, n, v as u32)
+            put_number(out, n, v as usize)
         }
     }
 }
@@ -80,7 +80,7 @@ fn put_key(out: &mut [u8], at: usize, k: Key) -> usize
 {
     let m = k.pattern;
     let a = put_bytes(out, at, b" prio=");
-    let b = put_number(out, a, k.priority as u32);
+    let b = put_number(out, a, k.priority as usize);
     put_match(out, b, m)
 }
 

@@ -9,16 +9,16 @@ use Rattle.list_report.proofs.printing.put_counts.Tie as tie
 add-result : tie.Need-add-result
 add-result c =
     let listed = c .before .before .before .before .before .before in
-    let commuting = listed .before .before .before .before .before .before in
-    let ordered = commuting .before .before .before .before .before .before in
-    let pairs = ordered .before .before .before .before .before .before in
+    let commuting = listed .before .before .before .before .before in
+    let ordered = commuting .before .before .before .before .before in
+    let pairs = ordered .before .before .before .before .before in
     omega (
       arith,
       listed .put-key-number4 .ensures .1,
       commuting .put-key-number3 .ensures .1,
       ordered .put-key-number2 .ensures .1,
       pairs .put-key-number .ensures .1,
-      pairs .before .before .before .before .before .pre,
+      pairs .before .before .before .before .pre,
     )
 
 returns : tie.Need-returns
@@ -26,9 +26,9 @@ unfolding countsLine
 returns c =
     let at-put-byte = c .before .before in
     let listed = at-put-byte .before .before .before .before in
-    let commuting = listed .before .before .before .before .before .before in
-    let ordered = commuting .before .before .before .before .before .before in
-    let pairs = ordered .before .before .before .before .before .before in
+    let commuting = listed .before .before .before .before .before in
+    let ordered = commuting .before .before .before .before .before in
+    let pairs = ordered .before .before .before .before .before in
     put-then
     (put-then
     (put-then (put-then (pairs .put-key-number .ensures .0) (ordered .put-key-number2 .ensures .0)) (commuting .put-key-number3 .ensures .0))
@@ -38,6 +38,6 @@ returns c =
 pub put-counts-spec : {M : Type 1} → statement M
 put-counts-spec =
     tie.close
-    (tie.spec (λ c. search needs) (λ c. search needs) (λ c κs. search needs) (λ c. search needs) (λ c. search needs) (λ c κs. search needs) (λ c. search needs) (λ c. search needs) (λ c κs. search needs) (λ c. search needs) (λ c. search needs) (λ c κs. search needs) (λ c κs. search needs)
+    (tie.spec (λ c. search needs) (λ c κs. search needs) (λ c. search needs) (λ c κs. search needs) (λ c. search needs) (λ c κs. search needs) (λ c. search needs) (λ c κs. search needs) (λ c κs. search needs)
     add-result (λ c. search needs)
     returns)

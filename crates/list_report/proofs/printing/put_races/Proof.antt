@@ -13,7 +13,7 @@ use Rattle.list_report.proofs.printing.put_races.Tie as tie
 
 abbrev Inv-loop : tie.InvT-loop
 Inv-loop out₀ list at₀ i₀ out at i =
-    (i ≤ length list) × (at ≤ 27 * i) × (length list ≤ 131072) × ((w : List ℕ) × Put w 0 out₀ at out × (w ++ raceLines (drop i list) ≡ raceLines list))
+    (i ≤ length list) × (at ≤ 37 * i) × (length list ≤ 131072) × ((w : List ℕ) × Put w 0 out₀ at out × (w ++ raceLines (drop i list) ≡ raceLines list))
 
 abbrev μ-loop : tie.MeasureT-loop
 μ-loop out₀ list at₀ i₀ out at i = length list - i

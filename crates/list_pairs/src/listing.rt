@@ -6,11 +6,11 @@ ghost use mathlib.Core.Path.{_≡_};
 ghost use Prim.Native.Nat.{_≤_};
 ghost use lib.ListN.{length};
 ghost use Rattle.trace_events.specs.Events.{eventsOf};
-ghost use Rattle.list_pairs.specs.Inner.{HoldsList};
+ghost use Rattle.list_pairs.specs.Inner.{zeros, HoldsList};
 
 // Room for two bytes of each pair of 256 events, and more.
 pub fn pair_room() -> [u8; 131072]
-    ensures { λ r. ⌜ length r ≡ 131072 ⌝ }
+    ensures { λ r. ⌜ (r ≡ zeros 131072) × (length r ≡ 131072) ⌝ }
 {
     [0u8; 131072]
 }

@@ -11,6 +11,7 @@ ghost use Rattle.text_numbers.specs.Inner.{Put};
 ghost use Rattle.call_answers.specs.Inner.{Small};
 ghost use Rattle.trace_events.specs.Events.{eventsOf};
 ghost use Rattle.list_pairs.specs.List.{listingOf};
+ghost use Rattle.list_pairs.specs.Inner.{zeros};
 ghost use Rattle.list_report.specs.Report.{raceLine, raceLines, countsLine, listText, reportText};
 
 // `race=3,4`
@@ -55,7 +56,7 @@ fn put_counts(out: &mut [u8], at: usize, c: Counts) -> usize
 
 // Room for all that is printed of a trace.
 pub fn room() -> [u8; 425000]
-    ensures { λ r. ⌜ length r ≡ 425000 ⌝ }
+    ensures { λ r. ⌜ (r ≡ zeros 425000) × (length r ≡ 425000) ⌝ }
 {
     [0u8; 425000]
 }

@@ -20,6 +20,11 @@ abbrev pub _▹_ : {A B : Type 0} → Checked A → (A → Checked B) → Checke
 inl r ▹ next = inl r
 inr a ▹ next = next a
 
+-- the value that is handed on; after a refusal another
+abbrev pub valueOr : {A : Type 0} → A → Checked A → A
+valueOr other (inl r) = other
+valueOr other (inr a) = a
+
 -- refused where the test says yes
 abbrev pub refuseIf : Bool → Refusal → Checked (Unit {0})
 refuseIf true r = inl r

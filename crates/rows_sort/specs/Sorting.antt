@@ -1,5 +1,6 @@
 -- Document 01, "Tables and replay": the rows of a table text's lines put in order.
-use mathlib.Core.Bool.{Bool, false, cond}
+use mathlib.Core.Path.{_≡_}
+use mathlib.Core.Bool.{Bool, true, false, cond}
 use mathlib.Core.Option.{Option, none, some}
 use mathlib.Core.Logic.{_⊎_, inl, inr}
 use mathlib.Core.List.{List, [], _∷_}
@@ -26,6 +27,7 @@ sortFrom k earlier (x ∷ xs) = cond (anyRow (sameSlot x) earlier) (inl k) (sort
 unfoldable pub sortRows : List Row → ℕ ⊎ List Row
 sortRows lines = sortFrom 0 [] lines
 
--- what `sort` answers
-abbrev pub sortAnswer : SortedLines → ℕ ⊎ List Row
-sortAnswer r = cond (r .ok) (inr (rowsOf (r .rows))) (inl (r .line))
+-- what `sort` hands back: the rows in order, and line 0; or the line, and no rows
+abbrev pub Sorts : SortedLines → ℕ ⊎ List Row → Type 0
+Sorts r (inr rows) = (r .ok ≡ true) × (r .line ≡ 0) × (rowsOf (r .rows) ≡ rows)
+Sorts r (inl line) = (r .ok ≡ false) × (r .line ≡ line) × (rowsOf (r .rows) ≡ [])

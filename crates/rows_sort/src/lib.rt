@@ -1,12 +1,11 @@
 // The rows of a text's lines, put in order.
 use rows::Rows;
 use rows_search::Search;
-ghost use mathlib.Core.Path.{_≡_};
 ghost use Prim.Native.Nat.{_≤_};
 ghost use Rattle.rows.specs.Rows.{rowsOf};
-ghost use Rattle.rows_sort.specs.Sorting.{sortRows, sortAnswer};
+ghost use Rattle.rows_sort.specs.Sorting.{sortRows, Sorts};
 
-// The rows in order; or, where a line's switch and key stood on an earlier line, the first such line.
+// The rows in order, and line 0; or, where a line's switch and key stood on an earlier line, the first such line and no rows.
 pub struct Sorted {
     pub ok: bool,
     pub line: usize,
@@ -17,7 +16,7 @@ pub struct Sorted {
 // inner call would copy the rows at each turn.
 pub fn sort(lines: Rows) -> Sorted
     requires { ⌜ lines .len ≤ 512 ⌝ }
-    ensures { λ r. ⌜ (sortAnswer r ≡ sortRows (rowsOf lines)) × (r .rows .len ≤ lines .len) ⌝ }
+    ensures { λ r. ⌜ Sorts r (sortRows (rowsOf lines)) × (r .rows .len ≤ lines .len) ⌝ }
 {
     let n = lines.len;
     let mut rows = lines.rows;
@@ -35,11 +34,11 @@ pub fn sort(lines: Rows) -> Sorted
             search = next;
         }
         if search.same {
-            let sorted = Rows { rows, len: i };
+            let none = Rows { rows, len: 0 };
             return Sorted {
                 ok: false,
                 line: i,
-                rows: sorted,
+                rows: none,
             };
         }
         let at = search.at;

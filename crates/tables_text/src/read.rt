@@ -6,7 +6,6 @@ use refusals::Outcome;
 use refusals::Refusal;
 use rows::Rows;
 use text_lines::Limit;
-ghost use mathlib.Core.Path.{_≡_};
 ghost use mathlib.Core.Logic.{inl};
 ghost use Prim.Native.Nat.{_≤_};
 ghost use lib.ListN.{length};
@@ -14,49 +13,17 @@ ghost use Rattle.text_lines.specs.Lines.{lines};
 ghost use Rattle.rows.specs.Rows.{rowsOf};
 ghost use Rattle.refusals.specs.Checks.{_▹_};
 ghost use Rattle.tables_text.specs.TableText.{readTables};
-ghost use Rattle.tables_text.specs.Inner.{readRows, sortedRows, asTables};
+ghost use Rattle.tables_text.specs.Inner.{readRows, sortedRows, TablesOf};
 
-// The rows count only where the text is accepted.
+// Accepted, the rows are those of the text; refused, there are none.
 pub struct TablesRead {
     pub outcome: Outcome,
     pub rows: Rows,
 }
 
-// The rows of the lines, in the order of the lines.
-fn read_rows(text: &[u8]) -> TablesRead
-    requires { ⌜ length (lines (now text)) ≤ 256 ⌝ }
-    ensures { λ r. ⌜ (asTables r ≡ readRows (now (text .entry))) × (r .rows .len ≤ 256) ⌝ }
-{
-    let mut rows = no_rows();
-    let mut at: usize = 0;
-    while at < text.len() {
-        let line = text_reader::line_at(text, at);
-        let next = text_reader::after_line(text, at);
-        let k = rows.len;
-        let read = row_line(line, k);
-        match read {
-            RowRead::Refused(e) => {
-                return TablesRead {
-                    outcome: Outcome::Refused(e),
-                    rows,
-                };
-            }
-            RowRead::Read(row) => {
-                rows.rows[k] = row;
-                rows.len = k + 1;
-            }
-        }
-        at = next;
-    }
-    TablesRead {
-        outcome: Outcome::Accepted,
-        rows,
-    }
-}
-
-// A text that is refused.
+// A text that is refused: no rows.
 fn refused(e: Refusal) -> TablesRead
-    ensures { λ r. ⌜ (asTables r ≡ inl e) × (r .rows .len ≤ 256) ⌝ }
+    ensures { λ r. ⌜ TablesOf (inl e) r ⌝ }
 {
     let rows = no_rows();
     TablesRead {
@@ -65,10 +32,40 @@ fn refused(e: Refusal) -> TablesRead
     }
 }
 
+// The rows of the lines, in the order of the lines.
+fn read_rows(text: &[u8]) -> TablesRead
+    requires { ⌜ length (lines (now text)) ≤ 256 ⌝ }
+    ensures { λ r. ⌜ TablesOf (readRows (now (text .entry))) r ⌝ }
+{
+    let ends = text_reader::line_ends(text);
+    let n = ends.count;
+    let mut rows = no_rows();
+    let mut from: usize = 0;
+    for k in 0..n {
+        let to = ends.after[k];
+        let line = text_reader::line_between(text, from, to);
+        let read = row_line(line, k);
+        match read {
+            RowRead::Refused(e) => {
+                return refused(e);
+            }
+            RowRead::Read(row) => {
+                rows.rows[k] = row;
+                rows.len = k + 1;
+            }
+        }
+        from = to;
+    }
+    TablesRead {
+        outcome: Outcome::Accepted,
+        rows,
+    }
+}
+
 // The rows of the lines, in order.
 fn sort_rows(lines: Rows) -> TablesRead
     requires { ⌜ lines .len ≤ 256 ⌝ }
-    ensures { λ r. ⌜ (asTables r ≡ sortedRows (rowsOf lines)) × (r .rows .len ≤ 256) ⌝ }
+    ensures { λ r. ⌜ TablesOf (sortedRows (rowsOf lines)) r ⌝ }
 {
     let sorted = rows_sort::sort(lines);
     let rows = sorted.rows;
@@ -88,7 +85,7 @@ fn sort_rows(lines: Rows) -> TablesRead
 // The rows of the lines, or the first refusal of a line; then in order.
 fn read_sorted(text: &[u8]) -> TablesRead
     requires { ⌜ length (lines (now text)) ≤ 256 ⌝ }
-    ensures { λ r. ⌜ (asTables r ≡ (readRows (now (text .entry)) ▹ sortedRows)) × (r .rows .len ≤ 256) ⌝ }
+    ensures { λ r. ⌜ TablesOf (readRows (now (text .entry)) ▹ sortedRows) r ⌝ }
 {
     let read = read_rows(text);
     let outcome = read.outcome;
@@ -101,7 +98,7 @@ fn read_sorted(text: &[u8]) -> TablesRead
 
 // The rows of a text, in order, or the first refusal.
 pub fn read_tables(text: &[u8]) -> TablesRead
-    ensures { λ r. ⌜ (asTables r ≡ readTables (now (text .entry))) × (r .rows .len ≤ 256) ⌝ }
+    ensures { λ r. ⌜ TablesOf (readTables (now (text .entry))) r ⌝ }
 {
     let limit = text_lines::limit_of(text);
     match limit {

@@ -105,3 +105,52 @@ unfolding firstLine
 line-part s k =
     let t = drop (lineStart s k) s in
     rw (← line-found k s, length-take-le (lineLength t) t (line-within t))
+
+-- ---- from line to line
+-- the next line starts past the first line of what is left there
+pub start-after : (k : ℕ) (s : List ℕ) → lineStart s (k + 1) ≡ lineStart s k + lineStart (drop (lineStart s k) s) 1
+start-after zero s = rw (start-first s) (omega arith)
+start-after (suc k) [] = rw (start-empty (suc k + 1), start-empty (suc k), start-empty 1) (omega arith)
+start-after (suc k) (b ∷ s) =
+    let n = lineLength (b ∷ s) + 1 in
+    let u = drop n (b ∷ s) in
+    rw (add-one (suc k), start-later (b ∷ s) (suc k) (omega arith), start-later (b ∷ s) k (omega arith), ← drop-drop (lineStart u k) n (b ∷ s))
+    (omega (arith, rw (add-one k) at (start-after k u)))
+
+-- there is a line of that number exactly if it starts within the text
+pub start-inside : (k : ℕ) (s : List ℕ) → k < length (lines s) → lineStart s k < length s
+unfolding lines
+start-inside zero [] h = absurd (omega arith)
+start-inside zero (b ∷ s) h = rw (start-first (b ∷ s)) (omega arith)
+start-inside (suc k) [] h = absurd (omega arith)
+start-inside (suc k) (b ∷ s) h =
+    let n = lineLength (b ∷ s) + 1 in
+    let later : k < length (lines (drop n (b ∷ s))) = omega (arith, ap length (lines-cons (b ∷ s) (omega arith))) in
+    rw (start-later (b ∷ s) k (omega arith)) (omega (arith, start-inside k (drop n (b ∷ s)) later, length-drop n (b ∷ s)))
+
+pub inside-start : (k : ℕ) (s : List ℕ) → lineStart s k < length s → k < length (lines s)
+inside-start zero [] h = absurd (omega arith)
+inside-start zero (b ∷ s) h = omega (arith, ap length (lines-cons (b ∷ s) (omega arith)))
+inside-start (suc k) [] h = absurd (omega arith)
+inside-start (suc k) (b ∷ s) h =
+    let n = lineLength (b ∷ s) + 1 in
+    let at : lineStart (drop n (b ∷ s)) k < length (drop n (b ∷ s)) = omega (arith, start-later (b ∷ s) k (omega arith), length-drop n (b ∷ s)) in
+    omega (arith, ap length (lines-cons (b ∷ s) (omega arith)), inside-start k (drop n (b ∷ s)) at)
+
+-- a line is what stands from its start to before the LF that the next one starts behind
+module _ (k : ℕ) (s : List ℕ) (h : k < length (lines s)) where
+  starts-on : lineStart s (k + 1) ≡ lineStart s k + (lineLength (drop (lineStart s k) s) + 1)
+  starts-on =
+      let t = drop (lineStart s k) s in
+      let some : 0 < length t = omega (arith, start-inside k s h, length-drop (lineStart s k) s) in
+      let first : lineStart t 1 ≡ lineLength t + 1 = start-later t 0 some ∙ rw (start-first (drop (lineLength t + 1) t), add-zero) in
+      start-after k s ∙ ap (λ (m : ℕ). lineStart s k + m) first
+
+  pub start-rises : lineStart s k < lineStart s (k + 1)
+  start-rises = omega (arith, starts-on)
+
+  pub line-bytes : take (lineStart s (k + 1) - lineStart s k - 1) (drop (lineStart s k) s) ≡ getD (lines s) k []
+  unfolding firstLine
+  line-bytes =
+      let long : lineStart s (k + 1) - lineStart s k - 1 ≡ lineLength (drop (lineStart s k) s) = omega (arith, starts-on) in
+      rw long (line-found k s)

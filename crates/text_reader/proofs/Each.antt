@@ -3,11 +3,11 @@ use Prim.Native.Nat.{ℕ, suc, _+_, _≤_, _<_}
 use mathlib.Core.List.{List, [], _∷_, _++_, append-assoc, append-nil}
 use mathlib.Core.Logic.{_⊎_, inl, inr}
 use mathlib.Core.Path.{_≡_, refl, sym, _∙_, ap}
+use native.Mathlib.Numerals.{add-one}
 use native.Mathlib.Omega.{arith}
-use lib.ListN.{length, drop}
-use Rattle.text_lines.specs.Lines.{lines}
+use lib.ListN.{length, getD, drop, drop-of-length-le}
+use lib.Seq.{drop-cons}
 use Rattle.text_reader.specs.Each.{inFront, readEach}
-use Rattle.text_reader.proofs.Reading.{Lined, none-left}
 
 -- the values of earlier lines, before those of the others
 abbrev behind : {R A : Type 0} → List A → R ⊎ List A → R ⊎ List A
@@ -22,28 +22,31 @@ behind-one : {R A : Type 0} (earlier : List A) (a : A) (x : R ⊎ List A) → be
 behind-one earlier a (inl r) = refl
 behind-one earlier a (inr vs) = ap inr (sym (append-assoc earlier (a ∷ []) vs))
 
--- the loop's invariant: the values so far, and those of the lines from the place on, are those of the text
-unfoldable pub Rest : {R A : Type 0} → (ℕ → List ℕ → R ⊎ A) → List ℕ → List A → ℕ → ℕ → Type 0
-Rest read s earlier k at = readEach read 0 (lines s) ≡ behind earlier (readEach read k (lines (drop at s)))
+-- the invariant of a loop over the lines: the values so far, and those of the lines from line k on, are those of all
+unfoldable pub Rest : {R A : Type 0} → (ℕ → List ℕ → R ⊎ A) → List (List ℕ) → List A → ℕ → Type 0
+Rest read ls earlier k = readEach read 0 ls ≡ behind earlier (readEach read k (drop k ls))
 
-module _ {R A : Type 0} (read : ℕ → List ℕ → R ⊎ A) (s : List ℕ) (earlier : List A) (k : ℕ) where
-  pub rest-start : earlier ≡ [] → k ≡ 0 → Rest read s earlier k 0
+module _ {R A : Type 0} (read : ℕ → List ℕ → R ⊎ A) (ls : List (List ℕ)) (earlier : List A) (k : ℕ) where
+  pub rest-start : earlier ≡ [] → k ≡ 0 → Rest read ls earlier k
   unfolding Rest
-  rest-start e z = rw (e, z) (behind-none (readEach read 0 (lines s)))
+  rest-start e z = rw (e, z) (behind-none (readEach read 0 ls))
 
-  module _ (at : ℕ) (rest : Rest read s earlier k at) where
-    pub rest-end : length s ≤ at → inr earlier ≡ readEach read 0 (lines s)
+  module _ (rest : Rest read ls earlier k) where
+    pub rest-end : length ls ≤ k → inr earlier ≡ readEach read 0 ls
     unfolding readEach Rest
-    rest-end h = sym (rest ∙ rw (none-left s at h, append-nil))
+    rest-end h = sym (rest ∙ rw (drop-of-length-le ls h, append-nil))
 
-    module _ (line : List ℕ) (next : ℕ) (lined : Lined s at line next) where
-      pub rest-refused : (r : R) → read k line ≡ inl r → inl r ≡ readEach read 0 (lines s)
-      unfolding readEach Rest Lined
-      rest-refused r p = sym (rest ∙ rw (lined, p))
+    module _ (here : k < length ls) (line : List ℕ) (e : line ≡ getD ls k []) where
+      from-here : drop k ls ≡ line ∷ drop (k + 1) ls
+      from-here = rw (e, add-one k) (drop-cons ls k [] here)
 
-      pub rest-read : (a : A) → read k line ≡ inr a → Rest read s (earlier ++ (a ∷ [])) (k + 1) next
-      unfolding readEach Rest Lined
-      rest-read a p = rest ∙ rw (lined, p) (behind-one earlier a (readEach read (k + 1) (lines (drop next s))))
+      pub rest-refused : (r : R) → read k line ≡ inl r → inl r ≡ readEach read 0 ls
+      unfolding readEach Rest
+      rest-refused r p = sym (rest ∙ rw (from-here, p))
+
+      pub rest-read : (a : A) → read k line ≡ inr a → Rest read ls (earlier ++ (a ∷ [])) (k + 1)
+      unfolding readEach Rest
+      rest-read a p = rest ∙ rw (from-here, p) (behind-one earlier a (readEach read (k + 1) (drop (k + 1) ls)))
 
 -- ---- what is read of each line
 -- an answer is no refusal

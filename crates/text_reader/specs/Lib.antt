@@ -1,2 +1,4 @@
+pub mod Types
 pub mod Each
+pub mod Ends
 pub mod Inner

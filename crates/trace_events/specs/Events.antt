@@ -2,7 +2,7 @@
 use mathlib.Core.Bool.{Bool, true, false}
 use mathlib.Core.List.{List, [], _∷_}
 use Prim.Native.Nat.{ℕ}
-use lib.ListN.{take, getD}
+use lib.ListN.{take, getD, replicate}
 use Rattle.flow_table.specs.Carried.{carriedOf}
 use Rattle.trace_events.specs.Types.{TableOperation, Operation, Carried, Tokens, Head, Event, Trace}
 
@@ -23,6 +23,10 @@ noHead = record { ins = noTokens; outs = noTokens }
 
 abbrev pub noEvent : Event
 noEvent = record { head = noHead; operation = Operation.Other }
+
+-- a trace before its first event
+unfoldable pub noTrace : Trace
+noTrace = record { events = replicate 256 noEvent; len = 0 }
 
 -- the event of line i
 abbrev pub eventAt : List Event → ℕ → Event

@@ -3,8 +3,7 @@ use crate::event::Event;
 use crate::head::Head;
 use flow_table::Operation;
 ghost use mathlib.Core.Path.{_≡_};
-ghost use mathlib.Core.List.{[]};
-ghost use Rattle.trace_events.specs.Events.{eventsOf};
+ghost use Rattle.trace_events.specs.Events.{noTrace};
 
 pub struct Trace {
     pub events: [Event; 256],
@@ -12,8 +11,9 @@ pub struct Trace {
 }
 
 impl Trace {
+    // No events: all that the array holds is `oth` without tokens.
     pub fn empty() -> Trace
-        ensures { λ r. ⌜ (eventsOf r ≡ []) × (r .len ≡ 0) ⌝ }
+        ensures { λ r. ⌜ r ≡ noTrace ⌝ }
     {
         let head = Head::empty();
         let idle = Event {

@@ -1,11 +1,11 @@
 -- Inner: what parts of the code answer.
-use mathlib.Core.List.{List}
+use mathlib.Core.List.{List, []}
 use mathlib.Core.Logic.{inr}
 use mathlib.Core.Path.{_≡_}
 use Prim.Native.Nat.{ℕ, _≤_}
 use lib.ListN.{length}
 use Rattle.basics.specs.Searches.{lowest}
-use Rattle.refusals.specs.Checks.{Checked, _▹_, refuseAt, outcomeOf}
+use Rattle.refusals.specs.Checks.{Checked, _▹_, valueOr, refuseAt, outcomeOf}
 use Rattle.trace_events.specs.Events.{tokensOf, eventsOf}
 use Rattle.trace_text.specs.Types.{Refusal, Event, Tokens, TraceRead}
 use Rattle.trace_text.specs.TraceText.{putsOut, twice, takenEarly}
@@ -26,3 +26,9 @@ checkTokens es =
 -- what the code's answer says
 abbrev pub asTrace : TraceRead → Checked (List Event)
 asTrace r = outcomeOf (r .outcome) (eventsOf (r .trace))
+
+-- and with it what the trace holds: the events that are accepted, none after a refusal
+pub record TraceOf (x : Checked (List Event)) (r : TraceRead) : Type 0 where
+  pub answer : asTrace r ≡ x
+  pub events : eventsOf (r .trace) ≡ valueOr [] x
+  pub few : r .trace .len ≤ 256

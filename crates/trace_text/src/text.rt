@@ -6,7 +6,6 @@ use text_lines::Limit;
 use trace_events::Trace;
 use trace_line::EventRead;
 use trace_line::event_line;
-ghost use mathlib.Core.Path.{_≡_};
 ghost use mathlib.Core.Logic.{inl};
 ghost use Prim.Native.Nat.{_≤_};
 ghost use lib.ListN.{length};
@@ -15,39 +14,48 @@ ghost use Rattle.text_reader.specs.Each.{readEach};
 ghost use Rattle.refusals.specs.Checks.{_▹_};
 ghost use Rattle.trace_line.specs.EventLine.{readEvent};
 ghost use Rattle.trace_text.specs.TraceText.{readTrace};
-ghost use Rattle.trace_text.specs.Inner.{asTrace, checkTokens};
+ghost use Rattle.trace_text.specs.Inner.{TraceOf, checkTokens};
 
-// Accepted, the trace holds the events.
+// Accepted, the trace holds the events; refused, none.
 pub struct TraceRead {
     pub outcome: Outcome,
     pub trace: Trace,
 }
 
+// A text that is refused: no events.
+fn refused(r: Refusal) -> TraceRead
+    ensures { λ a. ⌜ TraceOf (inl r) a ⌝ }
+{
+    let trace = Trace::empty();
+    TraceRead {
+        outcome: Outcome::Refused(r),
+        trace,
+    }
+}
+
 // The lines from the first, each as an event; the first refusal stands.
 fn read_lines(text: &[u8]) -> TraceRead
     requires { ⌜ length (lines (now text)) ≤ 256 ⌝ }
-    ensures { λ r. ⌜ (asTrace r ≡ readEach readEvent 0 (lines (now (text .entry)))) × (r .trace .len ≤ 256) ⌝ }
+    ensures { λ r. ⌜ TraceOf (readEach readEvent 0 (lines (now (text .entry)))) r ⌝ }
 {
+    let ends = text_reader::line_ends(text);
+    let n = ends.count;
     let mut trace = Trace::empty();
-    let mut at: usize = 0;
-    while at < text.len() {
-        let line = text_reader::line_at(text, at);
-        let next = text_reader::after_line(text, at);
-        let k = trace.len;
+    let mut from: usize = 0;
+    for k in 0..n {
+        let to = ends.after[k];
+        let line = text_reader::line_between(text, from, to);
         let read = event_line(line, k);
         match read {
             EventRead::Refused(r) => {
-                return TraceRead {
-                    outcome: Outcome::Refused(r),
-                    trace,
-                };
+                return refused(r);
             }
             EventRead::Read(e) => {
                 trace.events[k] = e;
                 trace.len = k + 1;
             }
         }
-        at = next;
+        from = to;
     }
     TraceRead {
         outcome: Outcome::Accepted,
@@ -58,7 +66,7 @@ fn read_lines(text: &[u8]) -> TraceRead
 // The lines, and then the tokens.
 fn read_events(text: &[u8]) -> TraceRead
     requires { ⌜ length (lines (now text)) ≤ 256 ⌝ }
-    ensures { λ r. ⌜ (asTrace r ≡ (readEach readEvent 0 (lines (now (text .entry))) ▹ checkTokens)) × (r .trace .len ≤ 256) ⌝ }
+    ensures { λ r. ⌜ TraceOf (readEach readEvent 0 (lines (now (text .entry))) ▹ checkTokens) r ⌝ }
 {
     let read = read_lines(text);
     let outcome = read.outcome;
@@ -68,26 +76,22 @@ fn read_events(text: &[u8]) -> TraceRead
         }
         Outcome::Accepted => {
             let trace = read.trace;
-            let outcome = check_tokens(trace);
-            return TraceRead { outcome, trace };
+            let checked = check_tokens(trace);
+            match checked {
+                Outcome::Refused(r) => {
+                    return refused(r);
+                }
+                Outcome::Accepted => {
+                    return read;
+                }
+            }
         }
-    }
-}
-
-// A text that is refused, with no events.
-fn refused(r: Refusal) -> TraceRead
-    ensures { λ a. ⌜ (asTrace a ≡ inl r) × (a .trace .len ≤ 256) ⌝ }
-{
-    let trace = Trace::empty();
-    TraceRead {
-        outcome: Outcome::Refused(r),
-        trace,
     }
 }
 
 // The events of a trace text, or what is refused.
 pub fn read_trace(text: &[u8]) -> TraceRead
-    ensures { λ r. ⌜ (asTrace r ≡ readTrace (now (text .entry))) × (r .trace .len ≤ 256) ⌝ }
+    ensures { λ r. ⌜ TraceOf (readTrace (now (text .entry))) r ⌝ }
 {
     let limit = text_lines::limit_of(text);
     match limit {

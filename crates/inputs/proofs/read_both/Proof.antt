@@ -14,9 +14,11 @@ returns c =
     let a = at-outcome .before .before .before .before .before .args in (
       read-both (now (a .trace)) (now (a .tables)) (traced .result .outcome) (tabled .result .outcome)
           (eventsOf (traced .result .trace)) (rowsOf (tabled .result .rows))
-          (at-outcome .first-of .ensures) (traced .ensures .0) (tabled .ensures .0),
-      traced .ensures .1,
-      tabled .ensures .1,
+          (at-outcome .first-of .ensures) (traced .ensures .answer) (tabled .ensures .answer),
+      traced .ensures .few,
+      tabled .ensures .few,
+      traced .ensures .events,
+      tabled .ensures .rows,
     )
 
 pub read-both-spec : {M : Type 1} → statement M

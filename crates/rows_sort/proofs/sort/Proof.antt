@@ -1,7 +1,6 @@
 -- The outer invariant: the first i rows are in order, and with them the rest of the lines sorts as all do. The second: the search for
 -- line i's place. The third: the rows from the place on move up.
 use mathlib.Core.Path.{_≡_, refl, sym, ap, _∙_}
-use mathlib.Core.Logic.{inr}
 use Prim.Native.Nat.{_+_, _-_, _≤_}
 use native.Mathlib.Omega.{arith}
 use lib.ListN.{take, drop, length, length-set}
@@ -67,7 +66,8 @@ returns c =
     let l = q .before .before .before .loop in
     let t = q .before .before .before .before .before .args .t1 in
     let p = search-end _ _ _ _ (q .loop2 .inv) (c .before .if1 .left) in
-    (sym (sym (l .inv .5) ∙ line-twice (t .rows) (t .len) (l .i) _ (omega arith) (omega arith) _ (l .inv .4) _ (p .tells) (c .if2 .taken)), l .inv .0)
+    let twice = sym (l .inv .5) ∙ line-twice (t .rows) (t .len) (l .i) _ (omega arith) (omega arith) _ (l .inv .4) _ (p .tells) (c .if2 .taken) in
+    (rw twice (refl, refl, refl), omega arith)
 
 loop3-holds : tie.Need-loop3-holds Inv-loop2 μ-loop2 Inv-loop3 μ-loop3 Inv-loop μ-loop
 loop3-holds c =
@@ -106,7 +106,8 @@ returns-2 c =
     let m = c .before .loop in
     let t = c .before .before .before .args .t1 in
     let end : m .i ≡ t .len = omega (arith, c .loop-test .left) in
-    (ap inr (ap (λ j. take j (m .rows)) (sym end)) ∙ sym (sym (m .inv .5) ∙ no-lines (t .rows) (t .len) (m .i) _ (c .loop-test .left) (omega arith)), omega arith)
+    let all = sym (m .inv .5) ∙ no-lines (t .rows) (t .len) (m .i) _ (c .loop-test .left) (omega arith) in
+    (rw all (refl, refl, ap (λ j. take j (m .rows)) (sym end)), omega arith)
 
 pub sort-spec : {M : Type 1} → statement M
 sort-spec =

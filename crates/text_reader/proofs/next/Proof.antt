@@ -1,6 +1,6 @@
--- `reader::next` meets its contract: a walk of its MIR, by hand. The struct is taken apart, and `past_line` is called on the text and the position.
+-- `text_reader::next` meets its contract: a walk of its MIR, by hand. The struct is taken apart, and `past_line` is called on the text and the position.
 -- All that the proof knows of `past_line` is that it meets its contract. Assumes nothing.
-use Rattle.text_reader.proofs.Walking.{_≡_, refl, ap, ℕ, _≤_, _<_, _^_, [], _∷_, Holds, length, drop, URA, fullShare, named, w64, tyInt, Val, WT, hasTy, SProp, ent, emp, via, fst∗, snd∗, exE, id⊢, Lft, Share, fat, Memory, Routine, Heap, Calls, Loops, WpFn, Tables, Atoms, sem, Fun, fact, givenOf, tables, Given, ‵, raw, _⊛_, ⋆, some, later, _$_, _∵_, !, qed, by, move, drops, rewrite, use1, split, pick, fjoin, suffices, frame, await, whole, sub, look-in, agg, look, init, forget, stop, fld, from, load, of-opd, and-then, no-more, assigns, land, returns, enter, alloc1, alloc0, params1, pass1, pass0, free1, free0, FmC, fmOf, WpFn-mono, Is, shows, uint-makes, uint-lawful, usize, now, only, owned, peeks, heard, nothing, own-put, Contract, Triple, calls-at, onEntry, Meets, tripleOf, entered, cited, says, Stays, stay-none, walkOf, goes-none, ends-at, walked, walk-meets, yes, ensured, lasts, afterLine, left, LineReader, tablesOf, B, D, L, Token, Own, to, twice, apart}
+use Rattle.text_reader.proofs.Walking.{_≡_, refl, ap, ℕ, _+_, _<_, _^_, [], _∷_, Holds, URA, fullShare, named, w64, tyInt, Val, WT, hasTy, SProp, ent, emp, via, fst∗, snd∗, exE, id⊢, Lft, Share, fat, Memory, Routine, Heap, Calls, Loops, WpFn, Tables, Atoms, sem, Fun, fact, givenOf, tables, Given, ‵, raw, _⊛_, ⋆, some, later, _$_, _∵_, !, qed, by, move, drops, rewrite, use1, split, pick, fjoin, suffices, frame, await, whole, sub, look-in, agg, look, init, forget, stop, fld, from, load, of-opd, and-then, no-more, assigns, land, returns, enter, alloc1, alloc0, params1, pass1, pass0, free1, free0, FmC, fmOf, WpFn-mono, Is, shows, uint-makes, uint-lawful, usize, only, owned, peeks, heard, nothing, own-put, Contract, Triple, calls-at, onEntry, Meets, tripleOf, entered, cited, says, Stays, stay-none, walkOf, goes-none, ends-at, walked, walk-meets, yes, ensured, lasts, lineStart, left, LineReader, tablesOf, B, D, L, Own, Token, to, twice, apart}
 use denote.Struct.Laws as LL
 use Rattle.text_reader.proofs.LineReader.Laws as T′
 use Rattle.text_reader.proofs.past_line as called
@@ -22,7 +22,7 @@ module _ {M : Type 1} (𝓤 : URA M) (H : Heap 𝓤) (A : Atoms 𝓤) (mem : Mem
 module _ {M : Type 1} (𝓤 : URA M) (H : Heap 𝓤) (A : Atoms 𝓤) (W : Given 𝓤 H A) (mem : Memory → SProp 𝓤) (run : Routine → Fun 𝓤) (κ : Lft) (q : Share) (d : LineReader) where
   -- what is known of the place that the callee returns, and the struct at that place
   abbrev Found : ℕ → Type 0
-  Found r = (r ≤ length (now (d .text))) × (drop r (now (d .text)) ≡ afterLine (left d))
+  Found r = r ≡ d .at + lineStart (left d) 1
 
   abbrev d′ : ℕ → LineReader
   d′ r = record { text = d .text; at = r }
@@ -37,7 +37,7 @@ module _ {M : Type 1} (𝓤 : URA M) (H : Heap 𝓤) (A : Atoms 𝓤) (W : Given
   exits : (r : ℕ) (u : Val) → Found r → r < 2 ^ 64 → ent 𝓤 (⋆ 𝓤 H A (‵ (usize .own r (u ∷ [])) ∷ Token κ q ∷ ‵ (Own κ d) ∷ [])) (Post (T′.lowered (d′ r)))
   exits r u e fits =
       qed W (‵ (usize .own r (u ∷ [])) ∷ Token κ q ∷ ‵ (Own κ d) ∷ []) ∵
-      suffices ! _ (ends-at 𝓤 H A here.ended stayed (here.clauses 𝓤 H A mem run) W (((κ, tt), (q, tt), tt, (d, tt), (T′.lowered d ∷ [], tt)), tt) (T′.lowered (d′ r)) (d′ r) (tt, tt) (tt, tt)) $ says ! (refl, e .0, e .1) $
+      suffices ! _ (ends-at 𝓤 H A here.ended stayed (here.clauses 𝓤 H A mem run) W (((κ, tt), (q, tt), tt, (d, tt), (T′.lowered d ∷ [], tt)), tt) (T′.lowered (d′ r)) (d′ r) (tt, tt) (tt, tt)) $ says ! (refl, e) $
       drops ! $ frame ! $ use1 W (‵ (Own κ d) ⊛ ‵ (Own κ d)) (twice 𝓤 H A W mem run κ q d) $ split ! $ nothing ! $ move ! (1 ∷ 0 ∷ []) $ fjoin ! $ frame ! $
       -- [what the struct owns]: the facts of the new place take the place of at's
       owned ! usize (Is usize) (uint-makes 𝓤 H A W w64) r _ (refl, fits) $ move ! (1 ∷ 0 ∷ []) $ by ! (own-put 𝓤 H A W (D κ) (L κ) 1 (d .text, (d .at, tt)) r (T′.lowered d))

@@ -1,7 +1,13 @@
 use Prim.Native.Nat.{ℕ}
+use mathlib.Core.Path.{refl}
 use lib.ListN.{length-replicate}
+use Rattle.list_pairs.specs.Inner.{zeros}
 use Rattle.list_report.proofs.printing.room.Statement.{statement}
 use Rattle.list_report.proofs.printing.room.Tie as tie
 
+returns : tie.Need-returns
+unfolding zeros
+returns c = (refl, length-replicate {A = ℕ} 425000 0)
+
 pub room-spec : {M : Type 1} → statement M
-room-spec = tie.close (tie.spec (λ c. length-replicate {A = ℕ} 425000 0))
+room-spec = tie.close (tie.spec returns)

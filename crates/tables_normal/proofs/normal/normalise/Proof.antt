@@ -12,14 +12,14 @@ returns : tie.Need-returns
 returns c =
     let at-read = c .before .before .before .before in
     let a = at-read .before .before .before .args in
-    normal-refused _ (rowsOf (at-read .read-tables .result .rows)) (now (a .tables)) (now (a .out)) (at-read .read-tables .ensures .0) _ (c .before .outcome .given .1)
+    normal-refused _ (rowsOf (at-read .read-tables .result .rows)) (now (a .tables)) (now (a .out)) (at-read .read-tables .ensures .answer) _ (c .before .outcome .given .1)
 
 returns-2 : tie.Need-returns-2
 returns-2 c =
     let at-arm = c .before .before .before .before in
     let at-read = at-arm .before .before .before in
     let a = at-read .before .before .before .args in
-    normal-written _ (rowsOf (at-read .read-tables .result .rows)) (now (a .tables)) (now (a .out)) (at-read .read-tables .ensures .0) (at-arm .enum-told .given .1) (c .before .before .put-normal .ensures)
+    normal-written _ (rowsOf (at-read .read-tables .result .rows)) (now (a .tables)) (now (a .out)) (at-read .read-tables .ensures .answer) (at-arm .enum-told .given .1) (c .before .before .put-normal .ensures)
 
 pub normalise-spec : {M : Type 1} → statement M
 normalise-spec = tie.close (tie.spec (λ c κs. search needs) (λ c. search needs)

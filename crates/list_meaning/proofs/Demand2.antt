@@ -1,18 +1,14 @@
 -- Demand 2 for the list of every accepted trace text (`list-exact`). Assumes nothing.
-use Prim.Native.Nat.{ℕ, zero, suc, _*_, _≤_, _<_}
+use Prim.Native.Nat.{ℕ, _*_, _≤_, _<_}
 use native.Mathlib.Omega.{arith}
 use mathlib.Core.Path.{_≡_, sym, ap, subst}
-use mathlib.Core.List.{List, [], _∷_}
+use mathlib.Core.List.{List}
 use mathlib.Core.Logic.{inl, inr}
 use lib.ListN.{length}
 use Rattle.refusals.specs.Checks.{Checked, written}
 use Rattle.refusals.proofs.Checks.{short-refused, short-passed}
-use Rattle.trace_events.specs.Events.{eventAt}
-use Rattle.trace_line.specs.Written.{EventInRange}
-use Rattle.trace_line.proofs.EventRanges.{event-range}
 use Rattle.trace_text.specs.TraceText.{readTrace}
-use Rattle.trace_text.specs.Meaning.{AllWritten}
-use Rattle.trace_text.proofs.Accepted.{trace-accepted-iff}
+use Rattle.trace_text.proofs.Accepted.{events-in-range}
 use Rattle.list_verdicts.specs.Kinds.{listed}
 use Rattle.list_pairs.specs.List.{test, listOf, pairBytes, count, Listing, listingOf}
 use Rattle.list_pairs.proofs.PairLaws.{bytes-length}
@@ -25,15 +21,7 @@ use Rattle.list_meaning.proofs.OfKind.{kind-iff}
 use Rattle.list_meaning.proofs.Order.{pairs-rising}
 use Rattle.list_meaning.proofs.Bytes.{pairs-put}
 
-event-in-range : (es : List Event) → AllWritten es → (k : ℕ) → k < length es → EventInRange (eventAt es k)
-event-in-range [] w k l = absurd (omega arith)
-event-in-range (e ∷ es) w zero l = event-range e (w .0 .0) (w .0 .1)
-event-in-range (e ∷ es) w (suc k) l = event-in-range es (w .1) k (omega arith)
-
 module _ (s : List ℕ) (es : List Event) (h : readTrace s ≡ inr es) where
-  in-range : (k : ℕ) → k < length es → EventInRange (eventAt es k)
-  in-range = event-in-range es (trace-accepted-iff s es .0 h .written)
-
   passed : (room : ℕ) → 2 * count listed es ≤ room → listRaces s room ≡ inr (listingOf es)
   unfolding listRaces
   passed room l = rw (h, short-passed room (pairBytes (listOf es)) Refusal.ListShort (omega (arith, bytes-length (listOf es))))
@@ -56,8 +44,8 @@ module _ (s : List ℕ) (es : List Event) (h : readTrace s ≡ inr es) where
   -- THE list of an accepted trace text
   pub list-exact : ListExact s es
   list-exact = record {
-    lists = λ k. record { exact = λ i j. kind-iff es i j (λ n l. in-range n l .effect) k; rising = pairs-rising (test k es) (length es) };
-    all = pairs-count es (λ k l. in-range k l .switch);
+    lists = λ k. record { exact = λ i j. kind-iff es i j (λ n. events-in-range s es h n .effect) k; rising = pairs-rising (test k es) (length es) };
+    all = pairs-count es (λ n l. events-in-range s es h n .switch);
     sum = counts-add es;
     call = writes;
     short = refused;

@@ -100,13 +100,10 @@ module _ (es : List Event) (i j : ℕ) where
       → commutes (effectOf (eventAt es i .operation)) (effectOf (eventAt es j .operation)) ≡ commutes (tableEffect (p .first)) (tableEffect (p .second))
   same-commutes p = ap₂ (λ (a b : Operation). commutes (effectOf a) (effectOf b)) (p .lower-is) (p .higher-is)
 
-  module _ (ranges : (k : ℕ) → k < length es → EffectInRange (effectOf (eventAt es k .operation))) where
+  module _ (ranges : (k : ℕ) → EffectInRange (effectOf (eventAt es k .operation))) where
     differ-here : (p : OneTable es i j)
         → (not (commutes (tableEffect (p .first)) (tableEffect (p .second))) ≡ true) ↔ Differ (tableEffect (p .first)) (tableEffect (p .second))
-    differ-here p =
-        let l = p .lower in
-        let m = p .higher in
-        differ-iff (tableEffect (p .first)) (tableEffect (p .second)) (rw (p .lower-is) at (ranges i (omega arith))) (rw (p .higher-is) at (ranges j m))
+    differ-here p = differ-iff (tableEffect (p .first)) (tableEffect (p .second)) (rw (p .lower-is) at (ranges i)) (rw (p .higher-is) at (ranges j))
 
     from-test : (k : Kind) → i < j → j < length es → isKind k (eventAt es i .operation) (eventAt es j .operation) (before es i j) ≡ true → OfKind k es i j
     from-test pairs l m h = one-table l m h

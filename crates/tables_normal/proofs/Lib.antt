@@ -2,3 +2,4 @@ pub mod Normalising
 pub mod Writing
 pub mod Theorems
 pub mod OfTables
+pub mod Calls

@@ -1,3 +1,4 @@
 pub mod Types
 pub mod Normal
 pub mod Inner
+pub mod Calls

@@ -5,7 +5,7 @@ use mathlib.Core.Logic.{_↔_, inr}
 use mathlib.Core.Bool.{true}
 use mathlib.Core.List.{List, [], _∷_}
 use mathlib.Core.Option.{Option, none, some}
-use Prim.Native.Nat.{ℕ, suc, _+_, _≤_, _<_}
+use Prim.Native.Nat.{ℕ, zero, suc, _+_, _≤_, _<_}
 use native.Mathlib.Omega.{arith}
 use lib.Dec.{eqb}
 use lib.ListN.{length}
@@ -16,6 +16,7 @@ use Rattle.text_lines.specs.Limits.{limitOf}
 use Rattle.text_lines.proofs.LimitLaws.{within-limit, limit-within}
 use Rattle.text_reader.specs.Each.{readEach}
 use Rattle.text_reader.proofs.Each.{refuses, Each, each-only}
+use Rattle.trace_events.specs.Events.{eventAt}
 use Rattle.trace_line.specs.EventLine.{printLine, clearEvent, readNumberedEvent, onLine, readEvent}
 use Rattle.trace_line.specs.Written.{EventWritten, EventInRange}
 use Rattle.trace_line.proofs.LineFormat.{line-format}
@@ -131,15 +132,11 @@ trace-reads s es t =
 pub trace-accepted-iff : (s : List ℕ) (es : List Event) → (readTrace s ≡ inr es) ↔ IsTrace s es
 trace-accepted-iff s es = (trace-only s es, trace-reads s es)
 
--- what the events of an accepted trace carry is in range
-pub AllInRange : List Event → Type 0
-AllInRange [] = Unit {0}
-AllInRange (e ∷ es) = EventInRange e × AllInRange es
+-- what every event of an accepted trace does is in range, on one of the 16 switches
+written-range : (es : List Event) → AllWritten es → (i : ℕ) → EventInRange (eventAt es i)
+written-range [] w i = record { effect = tt; switch = omega arith }
+written-range (e ∷ es) w zero = event-range e (w .0 .0) (w .0 .1)
+written-range (e ∷ es) w (suc i) = written-range es (w .1) i
 
-all-in-range : (es : List Event) → AllWritten es → AllInRange es
-unfolding AllInRange
-all-in-range [] w = tt
-all-in-range (e ∷ es) w = (event-range e (w .0 .0) (w .0 .1), all-in-range es (w .1))
-
-pub accepted-range : (s : List ℕ) (es : List Event) → readTrace s ≡ inr es → AllInRange es
-accepted-range s es h = all-in-range es (trace-only s es h .written)
+pub events-in-range : (s : List ℕ) (es : List Event) → readTrace s ≡ inr es → (i : ℕ) → EventInRange (eventAt es i)
+events-in-range s es h = written-range es (trace-only s es h .written)

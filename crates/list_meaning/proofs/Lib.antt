@@ -1,0 +1,4 @@
+pub mod OfKind
+pub mod Order
+pub mod Bytes
+pub mod Demand2

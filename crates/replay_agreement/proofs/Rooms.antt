@@ -27,7 +27,7 @@ use Rattle.list_pairs.proofs.PairLaws.{bytes-length}
 use Rattle.list_pairs.proofs.Sizes.{count-most}
 use Rattle.list_verdicts.specs.Kinds.{listed}
 use Rattle.trace_text.specs.TraceText.{readTrace}
-use Rattle.trace_text.proofs.Accepted.{trace-accepted-iff}
+use Rattle.trace_text.proofs.Accepted.{trace-accepted-iff, events-in-range}
 use Rattle.tables_text.specs.TableText.{printRow, RowInRange, readTables}
 use Rattle.tables_text.proofs.Accepted.{accepted-sorted, accepted-range, accepted-length}
 use Rattle.tables_normal.specs.Normal.{normalText, tablesText}
@@ -38,7 +38,7 @@ use Rattle.order_rows.specs.Inner.{runRows}
 use Rattle.order_rows.proofs.EndTables.{run-tables}
 use Rattle.replay_answers.specs.Answers.{printItem, isSilent, printAnswer, answersText}
 use Rattle.replay_call.specs.Replay.{answerLines}
-use Rattle.replay_call.proofs.RowsAreTables.{events-in-range, end-beyond, end-text, end-count}
+use Rattle.replay_call.proofs.RowsAreTables.{end-beyond, end-text, end-count}
 use Rattle.replay_call.proofs.Theorems.{never-41}
 use Rattle.replay_agreement.specs.Types.{Action, Answer, Event, Row}
 use Rattle.replay_agreement.specs.Buffers.{LongEnough}

@@ -1,22 +1,17 @@
 -- What the replay call does on rows is what is defined on tables: for an accepted trace and table text the end rows are the end tables,
 -- in text (`end-text`) and in number (`end-count`), and with an accepted order both texts are (`texts-are`). Assumes nothing.
 use mathlib.Core.Path.{_≡_, refl, ap, _∙_, fun-ext}
-use mathlib.Core.List.{List, [], _∷_}
+use mathlib.Core.List.{List, []}
 use mathlib.Core.Logic.{inl, inr}
-use Prim.Native.Nat.{ℕ, zero, suc, _≤_}
-use native.Mathlib.Omega.{arith}
+use Prim.Native.Nat.{ℕ, _≤_}
 use lib.Dec.{ltb}
 use lib.ListN.{length}
 use Rattle.refusals.specs.Checks.{Checked, _▹_, refuseIf}
 use Rattle.order_meaning.specs.Tables.{endTables}
 use Rattle.rows.specs.Rows.{SortedRows, tableOf, tablesOf}
 use Rattle.rows.proofs.Gathered.{rows-counted}
-use Rattle.trace_events.specs.Events.{eventAt}
-use Rattle.trace_line.specs.Written.{EventInRange}
-use Rattle.trace_line.proofs.EventRanges.{event-range}
 use Rattle.trace_text.specs.TraceText.{readTrace}
-use Rattle.trace_text.specs.Meaning.{AllWritten}
-use Rattle.trace_text.proofs.Accepted.{trace-accepted-iff}
+use Rattle.trace_text.proofs.Accepted.{events-in-range}
 use Rattle.tables_text.specs.TableText.{readTables}
 use Rattle.tables_text.proofs.Accepted.{accepted-sorted}
 use Rattle.tables_normal.specs.Normal.{normalText, tablesText}
@@ -31,15 +26,6 @@ use Rattle.replay_texts.specs.Inner.{bothTexts, fittingBoth}
 use Rattle.replay_call.specs.Types.{Refusal, Event, Row}
 use Rattle.replay_call.specs.Replay.{entriesHeld, answerLines, textsOf}
 use Rattle.replay_call.specs.Inner.{fromTables, rowTexts, ranFrom, orderedFrom}
-
--- what every event of an accepted trace does is in range, on one of the 16 switches
-written-range : (es : List Event) → AllWritten es → (i : ℕ) → EventInRange (eventAt es i)
-written-range [] w i = record { effect = tt; switch = omega arith }
-written-range (e ∷ es) w zero = event-range e (w .0 .0) (w .0 .1)
-written-range (e ∷ es) w (suc i) = written-range es (w .1) i
-
-pub events-in-range : (s : List ℕ) (es : List Event) → readTrace s ≡ inr es → (i : ℕ) → EventInRange (eventAt es i)
-events-in-range s es trace = written-range es (trace-accepted-iff s es .0 trace .written)
 
 module _ (s t : List ℕ) (es : List Event) (rs : List Row) (trace : readTrace s ≡ inr es) (tables : readTables t ≡ inr rs) where
   sorted : SortedRows rs

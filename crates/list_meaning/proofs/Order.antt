@@ -12,27 +12,27 @@ use Rattle.basics.proofs.Gathered.{gather-in, only-in}
 use Rattle.list_verdicts.specs.Kinds.{Kind}
 use Rattle.list_pairs.specs.List.{Pair, cell, pairsWhere}
 use Rattle.list_meaning.specs.Types.{Event}
-use Rattle.list_meaning.specs.Rising.{Below, Rising, IsListOf}
+use Rattle.list_meaning.specs.Rising.{Below, RisingPairs, IsListOf}
 
 -- ---- rising lists
 -- every pair of one list is below every pair of another
 abbrev AllBelow : List Pair → List Pair → Type 0
 AllBelow a b = (p q : Pair) → List·Memᴰ p a → List·Memᴰ q b → Below p q
 
-rising-append : (a b : List Pair) → Rising a → Rising b → AllBelow a b → Rising (a ++ b)
+rising-append : (a b : List Pair) → RisingPairs a → RisingPairs b → AllBelow a b → RisingPairs (a ++ b)
 rising-append [] b r s h = s
 rising-append (p ∷ a) b r s h = (
   λ q m. ⊎-elim (r .0 q) (h p q (List·Memᴰ·head refl)) (List·Memᴰ·append-cases a m),
   rising-append a b (r .1) s (λ x y m n. h x y (List·Memᴰ·tail m) n),
 )
 
-rising-gather : (f : ℕ → List Pair) → ((m : ℕ) → Rising (f m)) → ((m k : ℕ) → m < k → AllBelow (f m) (f k)) → (n : ℕ) → Rising (gather f n)
+rising-gather : (f : ℕ → List Pair) → ((m : ℕ) → RisingPairs (f m)) → ((m k : ℕ) → m < k → AllBelow (f m) (f k)) → (n : ℕ) → RisingPairs (gather f n)
 rising-gather f r h zero = tt
 rising-gather f r h (suc n) =
     rising-append (gather f n) (f n) (rising-gather f r h n) (r n)
     (λ p q m l. let g = gather-in p f n m in h (g .0) n (g .1) p q (g .2) l)
 
-rising-only : (t : Bool) (p : Pair) → Rising (only t p)
+rising-only : (t : Bool) (p : Pair) → RisingPairs (only t p)
 rising-only true p = (λ q m. absurd (List·Memᴰ·not-nil m), tt)
 rising-only false p = tt
 
@@ -44,7 +44,7 @@ module _ (t : ℕ → ℕ → Bool) where
   in-row : (i n : ℕ) (p : Pair) → List·Memᴰ p (gather (cell t i) n) → p .lower ≡ i
   in-row i n p m = let g = gather-in p (cell t i) n m in ap (λ (q : Pair). q .lower) (in-cell i (g .0) p (g .2))
 
-  row-rising : (i n : ℕ) → Rising (gather (cell t i) n)
+  row-rising : (i n : ℕ) → RisingPairs (gather (cell t i) n)
   row-rising i =
       rising-gather (cell t i) (λ m. rising-only (ltb i m && t i m) (record { lower = i; higher = m }))
       (λ m k l p q x y.
@@ -55,7 +55,7 @@ module _ (t : ℕ → ℕ → Bool) where
         omega (arith, l, ap (λ (z : Pair). z .higher) e, ap (λ (z : Pair). z .higher) f),
       ))
 
-  pub pairs-rising : (n : ℕ) → Rising (pairsWhere t n)
+  pub pairs-rising : (n : ℕ) → RisingPairs (pairsWhere t n)
   unfolding pairsWhere
   pairs-rising n =
       rising-gather (λ i. gather (cell t i) n) (λ i. row-rising i n)
@@ -72,7 +72,7 @@ below-asymmetric p q (inl l) (inr (e, m)) = omega arith
 below-asymmetric p q (inr (e, l)) (inl m) = omega arith
 below-asymmetric p q (inr (e, l)) (inr (f, m)) = omega arith
 
-pub rising-unique : (a b : List Pair) → Rising a → Rising b → ((p : Pair) → List·Memᴰ p a → List·Memᴰ p b) → ((p : Pair) → List·Memᴰ p b → List·Memᴰ p a) → a ≡ b
+pub rising-unique : (a b : List Pair) → RisingPairs a → RisingPairs b → ((p : Pair) → List·Memᴰ p a → List·Memᴰ p b) → ((p : Pair) → List·Memᴰ p b → List·Memᴰ p a) → a ≡ b
 rising-unique [] [] r s f g = refl
 rising-unique [] (q ∷ b) r s f g = absurd (List·Memᴰ·not-nil (g q (List·Memᴰ·head refl)))
 rising-unique (p ∷ a) [] r s f g = absurd (List·Memᴰ·not-nil (f p (List·Memᴰ·head refl)))

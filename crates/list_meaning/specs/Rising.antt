@@ -13,11 +13,11 @@ abbrev pub Below : Pair → Pair → Type 0
 Below p q = (p .lower < q .lower) ⊎ ((p .lower ≡ q .lower) × (p .higher < q .higher))
 
 -- each pair is below all that come after it
-abbrev pub Rising : List Pair → Type 0
-Rising [] = Unit {0}
-Rising (p ∷ ps) = ((q : Pair) → List·Memᴰ q ps → Below p q) × Rising ps
+abbrev pub RisingPairs : List Pair → Type 0
+RisingPairs [] = Unit {0}
+RisingPairs (p ∷ ps) = ((q : Pair) → List·Memᴰ q ps → Below p q) × RisingPairs ps
 
 -- THE list of the pairs of a kind: these pairs and no others, in rising order. (`one-list`, proofs/Order.antt: there is one such list.)
 pub record IsListOf (k : Kind) (es : List Event) (ps : List Pair) : Type 0 where
   pub exact : (i j : ℕ) → List·Memᴰ (record { lower = i; higher = j }) ps ↔ OfKind k es i j
-  pub rising : Rising ps
+  pub rising : RisingPairs ps

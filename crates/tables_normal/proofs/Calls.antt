@@ -13,7 +13,7 @@ use Rattle.refusals.proofs.Checks.{short-refused, short-passed, not-refused}
 use Rattle.tables_text.specs.TableText.{readTables, HoldSame}
 use Rattle.tables_normal.specs.Types.{Refusal, Row, NormalAnswer}
 use Rattle.tables_normal.specs.Normal.{normalText, normalised, normalAnswer}
-use Rattle.tables_normal.specs.Calls.{LongEnough, Writes, SameBytes}
+use Rattle.tables_normal.specs.Calls.{NormalFits, WritesNormal, SameBytes}
 use Rattle.tables_normal.proofs.Theorems.{same-normal}
 
 module _ (t : List ℕ) (rs : List Row) (p : readTables t ≡ inr rs) where
@@ -26,11 +26,11 @@ module _ (t : List ℕ) (rs : List Row) (p : readTables t ≡ inr rs) where
   short room l = rw (p, short-refused room (normalText rs) Refusal.TablesShort l)
 
   -- a buffer that holds the normal text is long enough
-  pub holds-enough : (room : ℕ) → length (normalText rs) ≤ room → LongEnough t room
+  pub holds-enough : (room : ℕ) → length (normalText rs) ≤ room → NormalFits t room
   holds-enough room l n e = not-refused (sym (whole room l) ∙ e)
 
   -- into a long enough buffer the normal text is written
-  pub normal-writes : (old : List ℕ) → LongEnough t (length old) → Writes (normalText rs) t old
+  pub normal-writes : (old : List ℕ) → NormalFits t (length old) → WritesNormal (normalText rs) t old
   normal-writes old long =
       elim (decLt (length old) (length (normalText rs))) [
         | yes l ↦ absurd (long _ (short (length old) l))
@@ -40,7 +40,7 @@ module _ (t : List ℕ) (rs : List Row) (p : readTables t ≡ inr rs) where
       ]
 
 -- the text of which a call tells the length, taken from its buffer
-taken : (text tables old : List ℕ) (n : ℕ) → Writes text tables old → normalAnswer (normalised tables (length old)) ≡ NormalAnswer.Length n
+taken : (text tables old : List ℕ) (n : ℕ) → WritesNormal text tables old → normalAnswer (normalised tables (length old)) ≡ NormalAnswer.Length n
     → take n (written (normalised tables (length old)) old) ≡ text
 taken text tables old n w e =
     let z : NormalAnswer.Length (length text) ≡ NormalAnswer.Length n = sym (w .returned) ∙ e in
@@ -49,7 +49,7 @@ taken text tables old n w e =
 
 -- demand 2 for the normaliser, of its calls
 pub same-normal-call : (t u : List ℕ) (rs qs : List Row) → readTables t ≡ inr rs → readTables u ≡ inr qs
-    → (old new : List ℕ) → LongEnough t (length old) → LongEnough u (length new) → SameBytes t u old new ↔ HoldSame t u
+    → (old new : List ℕ) → NormalFits t (length old) → NormalFits u (length new) → SameBytes t u old new ↔ HoldSame t u
 same-normal-call t u rs qs p q old new long long' = (
   λ s. same-normal t u rs qs p q .0 (sym (taken _ t old (s .size) first (s .first)) ∙ s .bytes ∙ taken _ u new (s .size) second (s .second)),
   λ h.
@@ -59,8 +59,8 @@ same-normal-call t u rs qs p q old new long long' = (
       record { size = n; first = first .returned; second = returned; bytes = taken _ t old n first (first .returned) ∙ e ∙ sym (taken _ u new n second returned) },
 )
   where
-    first : Writes (normalText rs) t old
+    first : WritesNormal (normalText rs) t old
     first = normal-writes t rs p old long
 
-    second : Writes (normalText qs) u new
+    second : WritesNormal (normalText qs) u new
     second = normal-writes u qs q new long'

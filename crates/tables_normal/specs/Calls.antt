@@ -11,11 +11,11 @@ use Rattle.tables_normal.specs.Types.{Refusal, NormalAnswer}
 use Rattle.tables_normal.specs.Normal.{normalised, normalAnswer}
 
 -- a buffer is long enough if 32 does not apply
-abbrev pub LongEnough : List ℕ → ℕ → Type 0
-LongEnough tables room = (n : ℕ) → normalised tables room ≡ inl (Refusal.TablesShort n) → ⊥
+abbrev pub NormalFits : List ℕ → ℕ → Type 0
+NormalFits tables room = (n : ℕ) → normalised tables room ≡ inl (Refusal.TablesShort n) → ⊥
 
 -- the call returns the length of this text, which the buffer holds, and writes it from the buffer's start
-pub record Writes (text tables old : List ℕ) : Type 0 where
+pub record WritesNormal (text tables old : List ℕ) : Type 0 where
   pub fits : length text ≤ length old
   pub returned : normalAnswer (normalised tables (length old)) ≡ NormalAnswer.Length (length text)
   pub buffer : written (normalised tables (length old)) old ≡ startingWith text old

@@ -2,7 +2,7 @@
 use libc::STDERR_FILENO;
 use libc::STDIN_FILENO;
 ghost use mathlib.Core.Path.{_≡_};
-ghost use lib.ListN.{length};
+ghost use lib.ListN.{length, replicate};
 
 // Room for all that is printed of any trace.
 fn answer_in_full(trace: &[u8]) {
@@ -13,7 +13,7 @@ fn answer_in_full(trace: &[u8]) {
 
 // Room for the report on a short trace, but for the longest lists.
 fn short_room() -> [u8; 16384]
-    ensures { λ r. ⌜ length r ≡ 16384 ⌝ }
+    ensures { λ r. ⌜ (r ≡ replicate 16384 0) × (length r ≡ 16384) ⌝ }
 {
     [0u8; 16384]
 }

@@ -1,17 +1,17 @@
 -- The checks of a table text, by the paths through the code: what each check adds to what is read. Assumes nothing.
 use Prim.Native.Nat.{ℕ, _≤_}
 use mathlib.Core.Bool.{true, false, true≢false}
-use mathlib.Core.List.{List, []}
+use mathlib.Core.List.{List}
 use mathlib.Core.Logic.{_⊎_, inl, inr}
 use mathlib.Core.Path.{_≡_, refl, sym, _∙_, ap}
 use Rattle.text_lines.specs.Limits.{limitOf}
-use Rattle.refusals.specs.Checks.{Checked, _▹_, valueOr, refuseLimit, outcomeOf}
+use Rattle.refusals.specs.Checks.{Checked, _▹_, refuseLimit, outcomeOf}
 use Rattle.rows.specs.Rows.{rowsOf}
 use Rattle.rows_sort.specs.declared.Sorted.{Sorted as SortedLines}
 use Rattle.rows_sort.specs.Sorting.{sortRows, Sorts}
 use Rattle.tables_text.specs.Types.{Refusal, Limit, Row, Outcome, TablesRead}
 use Rattle.tables_text.specs.TableText.{readTables}
-use Rattle.tables_text.specs.Inner.{readRows, sortedRows, asTables, TablesOf}
+use Rattle.tables_text.specs.Inner.{readRows, sortedRows, TablesOf}
 use Rattle.tables_text.proofs.Sorting.{order-checked, twice-checked}
 
 -- ---- what a sort's answer says

@@ -12,7 +12,7 @@ use Rattle.basics.proofs.Booleans.{split}
 use Rattle.basics.proofs.Arrays.{noted-more}
 use Rattle.text_lines.specs.Lines.{lines, unlines, lineStart}
 use Rattle.text_lines.specs.Inner.{lineLength}
-use Rattle.text_lines.proofs.Laws.{start-none, start-here, start-next, start-after, start-inside, inside-start, start-rises, line-bytes}
+use Rattle.text_lines.proofs.Laws.{start-here, start-next, start-after, start-inside, inside-start, start-rises, line-bytes}
 use Rattle.text_reader.specs.Types.{LineReader, LineEnds}
 use Rattle.text_reader.specs.Inner.{left, noEnds, notedAt}
 use Rattle.text_reader.specs.Ends.{EndsOf}

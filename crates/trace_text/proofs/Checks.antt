@@ -1,13 +1,12 @@
 -- The checks of a text, by the paths through the code: what each check adds to what is read. Assumes nothing.
 use mathlib.Core.List.{List}
 use mathlib.Core.Logic.{inl, inr}
-use mathlib.Core.Path.{_≡_, refl, sym, _∙_, ap}
+use mathlib.Core.Path.{_≡_, sym, _∙_, ap}
 use Prim.Native.Nat.{ℕ}
-use native.Mathlib.Omega.{arith}
 use Rattle.text_lines.specs.Lines.{lines}
 use Rattle.text_lines.specs.Limits.{limitOf}
 use Rattle.text_reader.specs.Each.{readEach}
-use Rattle.refusals.specs.Checks.{Checked, _▹_, valueOr, refuseLimit, outcomeOf}
+use Rattle.refusals.specs.Checks.{Checked, _▹_, refuseLimit, outcomeOf}
 use Rattle.trace_events.specs.Events.{eventsOf}
 use Rattle.trace_line.specs.EventLine.{readEvent}
 use Rattle.trace_text.specs.Types.{Refusal, Limit, Event, Outcome, TraceRead}

@@ -29,11 +29,11 @@ extern "C" {
 #define GELLUNKA_MAX_BYTES 65535 /* of a trace or a table text */
 #define GELLUNKA_MAX_LINES 256   /* of a trace or a table text */
 
-/* Buffers of these lengths are never too short. (Counted from the limits and tested, not proved.) */
+/* Buffers of these lengths are never too short: proved, crates/replay_agreement/proofs/Rooms.antt. */
 #define GELLUNKA_LIST_ROOM 65280    /* of gellunka_list_races */
-#define GELLUNKA_NORMAL_ROOM 65535  /* of gellunka_normalise */
+#define GELLUNKA_NORMAL_ROOM 26880  /* of gellunka_normalise */
 #define GELLUNKA_TABLES_ROOM 53760  /* of gellunka_replay, the end tables */
-#define GELLUNKA_ANSWERS_ROOM 7424  /* of gellunka_replay, the answers */
+#define GELLUNKA_ANSWERS_ROOM 7168  /* of gellunka_replay, the answers */
 
 /*
  * What is refused, by document 01's table of refusals.
@@ -116,7 +116,8 @@ struct gellunka_normalised gellunka_normalise(const uint8_t *tables, size_t tabl
  * Refuses by 1 to 8, 11 to 16, 21, 22, 32 and 33, in this order, and leaves both output buffers as they were
  * then. Otherwise the first `tables` bytes of `tables_out` are the end tables in normal form, and the first
  * `answers` bytes of `answers_out` the answer lines by rising event; the bytes after them are as they were.
- * Orders that keep happens-before and have every listed pair in recorded order all write the same bytes.
+ * Orders that keep happens-before and have every listed pair in recorded order all write the same bytes,
+ * those of the recorded order.
  */
 struct gellunka_replayed gellunka_replay(const uint8_t *trace, size_t trace_length, const uint8_t *tables,
                                          size_t tables_length, const uint8_t *order, size_t order_length,

@@ -6,8 +6,8 @@
 //!
 //! The work is done by a static library whose source (`crates/exports` of the repository) is proved against
 //! definitions of the specification, document 01 (`docs/SPECIFICATION.md`). What is said below of results,
-//! refusals and buffers is proved for every input. This crate declares its functions and gives their answers
-//! Rust's types; that part, and the lengths [`LIST_ROOM`] to [`ANSWERS_ROOM`], are tested and not proved.
+//! refusals and buffers is proved for every input, the lengths [`LIST_ROOM`] to [`ANSWERS_ROOM`] too. This crate
+//! declares its functions and gives their answers Rust's types; that part is tested and not proved.
 //!
 //! A call allocates nothing and takes up to 1 MB of stack.
 //!
@@ -41,12 +41,12 @@ pub use refusal::{Reason, Refusal};
 
 /// A buffer of this length is never too short for [`list_races`].
 pub const LIST_ROOM: usize = 65_280;
-/// A buffer of this length is never too short for [`normalise`]. Nor is one as long as the table text.
-pub const NORMAL_ROOM: usize = 65_535;
+/// A buffer of this length is never too short for [`normalise`].
+pub const NORMAL_ROOM: usize = 26_880;
 /// A buffer of this length is never too short for the end tables of [`replay`].
 pub const TABLES_ROOM: usize = 53_760;
 /// A buffer of this length is never too short for the answers of [`replay`].
-pub const ANSWERS_ROOM: usize = 7_424;
+pub const ANSWERS_ROOM: usize = 7_168;
 
 /// How many pairs of table events of one switch a trace has, by kind.
 #[derive(Clone, Copy, Debug, Default, PartialEq, Eq, Hash)]

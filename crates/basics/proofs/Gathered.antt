@@ -4,10 +4,10 @@ use native.Mathlib.Nat.{eq-or-lt-of-le, le-of-suc-le-suc, le-refl, suc-mul}
 use native.Mathlib.Decide.{ℕ-discrete}
 use native.Mathlib.Numerals.{add-one}
 use native.Mathlib.Omega.{arith}
-use mathlib.Core.Path.{_≡_, refl, ap, subst}
+use mathlib.Core.Path.{_≡_, refl, ap, subst, _∙_}
 use mathlib.Core.Logic.{⊎-elim}
 use mathlib.Core.Bool.{Bool, true, false}
-use mathlib.Core.List.{List, [], List·Memᴰ, List·Memᴰ·head, List·Memᴰ·not-nil, List·Memᴰ·append-cases, List·Memᴰ·eq-of-singleton, Memᴰ·append-left, Memᴰ·append-right}
+use mathlib.Core.List.{List, [], _++_, List·Memᴰ, List·Memᴰ·head, List·Memᴰ·not-nil, List·Memᴰ·append-cases, List·Memᴰ·eq-of-singleton, Memᴰ·append-left, Memᴰ·append-right}
 use lib.ListN.{length, length-append}
 use Rattle.basics.specs.Searches.{only, gather, size, countBelow, sumBelow}
 
@@ -47,6 +47,17 @@ gather-most f m h (suc n) = omega (arith, length-append (gather f n) (f n), gath
 pub gather-none : {A : Type 0} (f : ℕ → List A) (n : ℕ) → ((j : ℕ) → j < n → f j ≡ []) → gather f n ≡ []
 gather-none f zero h = refl
 gather-none f (suc n) h = simp (gather-none f n (λ j l. h j (omega arith)), h n (omega arith))
+
+-- what is done to each part is done to the whole
+pub gather-through : {A B : Type 0} (h : List A → List B) → h [] ≡ [] → ((xs ys : List A) → h (xs ++ ys) ≡ h xs ++ h ys) → (f : ℕ → List A) (n : ℕ)
+    → h (gather f n) ≡ gather (λ j. h (f j)) n
+gather-through h e both f zero = e
+gather-through h e both f (suc n) = both (gather f n) (f n) ∙ ap (λ l. l ++ h (f n)) (gather-through h e both f n)
+
+-- the length is the sum of the parts' lengths
+pub gather-length : {A : Type 0} (f : ℕ → List A) (n : ℕ) → length (gather f n) ≡ sumBelow (λ j. length (f j)) n
+gather-length f zero = refl
+gather-length f (suc n) = omega (arith, length-append (gather f n) (f n), gather-length f n)
 
 pub size-only : {A : Type 0} (t : Bool) (x : A) → length (only t x) ≡ size t
 size-only true x = refl

@@ -1,13 +1,11 @@
 -- How much what is printed can take: 425,000 bytes. Assumes nothing.
-use Prim.Native.Nat.{ℕ, _*_, _/_, _<_, _≤_}
-use native.Mathlib.Decide.{decLt}
+use Prim.Native.Nat.{ℕ, _*_, _<_, _≤_}
 use native.Mathlib.Omega.{arith}
-use mathlib.Core.Path.{_≡_, refl, ap}
+use mathlib.Core.Path.{_≡_, refl}
 use mathlib.Core.List.{List, [], _∷_, List·Memᴰ, List·Memᴰ·head, List·Memᴰ·tail}
 use mathlib.Core.Logic.{inl, inr}
 use lib.ListN.{length, length-append}
-use Rattle.text_numbers.specs.Print.{printNumber}
-use Rattle.text_numbers.proofs.Print.{print-small, print-big, print-length}
+use Rattle.text_numbers.proofs.Print.{print-short, print-length}
 use Rattle.list_pairs.specs.List.{test, Pair, listOf, pairBytes, countsOf, listingOf}
 use Rattle.list_verdicts.specs.Kinds.{listed}
 use Rattle.list_pairs.proofs.Members.{pairs-in}
@@ -20,26 +18,9 @@ use Rattle.list_report.specs.Types.{Event, Counts}
 use Rattle.list_report.specs.Report.{raceLine, raceLines, countsLine, listText, textOf, reportText}
 use Rattle.list_report.proofs.Refused.{refused-text}
 
-one-digit : (n : ℕ) → n < 10 → length (printNumber n) ≡ 1
-one-digit n l = ap length (print-small n l)
-
-two-digits : (n : ℕ) → n < 100 → length (printNumber n) ≤ 2
-two-digits n l =
-    elim (decLt n 10) [
-      | yes s ↦ omega (arith, one-digit n s)
-      | no s ↦ rw (print-big n (omega arith) (omega arith), length-append) (omega (arith, one-digit (n / 10) (omega arith)))
-    ]
-
-three-digits : (n : ℕ) → n < 1000 → length (printNumber n) ≤ 3
-three-digits n l =
-    elim (decLt n 10) [
-      | yes s ↦ omega (arith, one-digit n s)
-      | no s ↦ rw (print-big n (omega arith) (omega arith), length-append) (omega (arith, two-digits (n / 10) (omega arith)))
-    ]
-
 race-length : (i j : ℕ) → i < 256 → j < 256 → length (raceLine i j) ≤ 13
 unfolding raceLine
-race-length i j a b = simp (length-append, key-number-length) (omega (arith, three-digits i (omega arith), three-digits j (omega arith)))
+race-length i j a b = simp (length-append, key-number-length) (omega (arith, print-short 2 i (omega arith), print-short 2 j (omega arith)))
 
 races-length : (ps : List Pair) → ((i j : ℕ) → List·Memᴰ (record { lower = i; higher = j }) ps → (i < j) × (j < 256)) → length (raceLines (pairBytes ps)) ≤ 13 * length ps
 races-length [] h = omega arith

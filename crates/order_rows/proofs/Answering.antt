@@ -18,7 +18,8 @@ use Rattle.rows.specs.Rows.{tableOf}
 use Rattle.rows_step.specs.Stepping.{stepRows, effectAnswer, answerRows}
 use Rattle.trace_events.specs.Events.{noEvent}
 use Rattle.order_rows.specs.Types.{Operation, Answer, Event, Row, Effect}
-use Rattle.order_rows.specs.Runs.{operationAt, keptIn, answersIn}
+use Rattle.order_rows.specs.Runs.{operationAt}
+use Rattle.order_rows.specs.Inner.{keptIn, answersIn}
 use Rattle.replay_answers.specs.Answers.{answersAs, hasAnswer, isSilent}
 use Rattle.order_rows.proofs.EndTables.{kept-absent}
 

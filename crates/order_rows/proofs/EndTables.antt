@@ -1,24 +1,27 @@
 -- What an order does to rows is what it does to the tables of the switches: the end tables (`run-tables`) and the answers
--- (`run-answers`). Rows in order stay so (`run-sorted`), with at most one row more for each event (`run-length`). Assumes nothing.
+-- (`run-answers`). Rows in order stay so (`run-sorted`), with at most one row more for each event (`run-length`) and none on a switch
+-- that neither they nor the events have (`run-beyond`). Assumes nothing.
 use mathlib.Core.Path.{_≡_, refl, ap, _∙_, fun-ext}
 use mathlib.Core.Bool.{Bool, true, false, _&&_, _||_, cond}
 use mathlib.Core.Option.{some}
 use mathlib.Core.List.{List, [], _∷_}
-use Prim.Native.Nat.{ℕ, _+_, _≤_}
+use Prim.Native.Nat.{ℕ, _+_, _≤_, _<_}
 use native.Mathlib.Omega.{arith}
 use lib.Dec.{eqb}
 use lib.ListN.{length}
+use borrow.Author.Tests.{ne-eqb}
 use Rattle.basics.proofs.Booleans.{or-left, or-right}
 use Rattle.order_meaning.specs.Orders.{run, answerIn, stands, IsOrderOf}
 use Rattle.basics.specs.Searches.{has}
 use Rattle.order_meaning.specs.Tables.{endTables, answers}
-use Rattle.flow_table.specs.Switches.{stepOf, answerOf}
+use Rattle.flow_table.specs.Switches.{Tables, switchOf, stepOf, answerOf}
 use Rattle.order_meaning.proofs.OrderLaws.{not-twice}
 use Rattle.rows.specs.Rows.{SortedRows, tableOf, tablesOf}
 use Rattle.rows_step.specs.Stepping.{stepRows, answerRows}
 use Rattle.rows_step.proofs.Steps.{step-tables, answer-tables, sorted-step, length-step}
 use Rattle.order_rows.specs.Types.{Operation, Answer, Event, Row}
-use Rattle.order_rows.specs.Runs.{operationAt, runRows, keptIn, answersIn, givenOr}
+use Rattle.order_rows.specs.Runs.{operationAt, givenOr}
+use Rattle.order_rows.specs.Inner.{runRows, keptIn, answersIn}
 
 module _ (ev : ℕ → Operation) where
   stepped : (i : ℕ) (rs : List Row) → SortedRows rs → tablesOf (stepRows (ev i) rs) ≡ stepOf (ev i) (tablesOf rs)
@@ -35,11 +38,22 @@ module _ (ev : ℕ → Operation) where
       ap (λ a. cond (eqb i j) (some a) (answerIn (λ k. stepRows (ev k)) (λ k. answerRows (ev k)) o (stepRows (ev j) rs) i)) (answer-tables (ev j) rs)
       ∙ ap (λ r. cond (eqb i j) (some (answerOf (ev j) (tablesOf rs))) r) (answers-by o (stepRows (ev j) rs) (sorted-step (ev j) rs s) i ∙ ap (λ t. answers ev o t i) (stepped j rs s))
 
+  -- the table of a switch that no event has stays
+  end-beyond : (n : ℕ) → ((i : ℕ) → switchOf (ev i) < n) → (o : List ℕ) (ts : Tables) (w : ℕ) → n ≤ w → endTables ev o ts w ≡ ts w
+  unfolding stepOf
+  end-beyond n h [] ts w l = refl
+  end-beyond n h (i ∷ o) ts w l = end-beyond n h o (stepOf (ev i) ts) w l ∙ rw (ne-eqb w (switchOf (ev i)) (λ e. omega (arith, h i))) refl
+
 module _ (es : List Event) where
   -- switch by switch, the end tables
   pub run-tables : (o : List ℕ) (rs : List Row) → SortedRows rs → (w : ℕ) → tableOf w (runRows es o rs) ≡ endTables (operationAt es) o (tablesOf rs) w
   unfolding runRows
   run-tables o rs s w = ap (λ t. t w) (tables-by (operationAt es) o rs s)
+
+  -- no row on a switch past n, where neither the rows nor the events have one
+  pub run-beyond : (n : ℕ) → ((i : ℕ) → switchOf (operationAt es i) < n) → (o : List ℕ) (rs : List Row) → SortedRows rs → ((w : ℕ) → n ≤ w → tableOf w rs ≡ [])
+      → (w : ℕ) → n ≤ w → tableOf w (runRows es o rs) ≡ []
+  run-beyond n h o rs s none w l = run-tables o rs s w ∙ end-beyond (operationAt es) n h o (tablesOf rs) w l ∙ none w l
 
   -- rows in order stay so
   pub run-sorted : (o : List ℕ) (rs : List Row) → SortedRows rs → SortedRows (runRows es o rs)

@@ -1,30 +1,13 @@
--- Document 01, "What an order of events does", on rows: what an order leaves, and the answers, each kept under its event's number.
-use mathlib.Core.Bool.{cond}
+-- Document 01, "What an order of events does": what an event of a trace does, and its answer.
 use mathlib.Core.Option.{Option, none, some}
-use mathlib.Core.List.{List, [], _∷_}
+use mathlib.Core.List.{List}
 use Prim.Native.Nat.{ℕ}
-use lib.Dec.{eqb}
-use Rattle.order_meaning.specs.Orders.{run}
-use Rattle.rows_step.specs.Stepping.{stepRows, answerRows}
 use Rattle.trace_events.specs.Events.{eventAt}
-use Rattle.order_rows.specs.Types.{Operation, Answer, Event, Row}
+use Rattle.order_rows.specs.Types.{Operation, Answer, Event}
 
 -- what event i does
 abbrev pub operationAt : List Event → ℕ → Operation
 operationAt es i = eventAt es i .operation
-
--- the rows after the events of an order, taken from the front: each meets what the one before it left
-unfoldable pub runRows : List Event → List ℕ → List Row → List Row
-runRows es o rs = run (λ i. stepRows (operationAt es i)) o rs
-
--- what is kept under number i after the order, if a was kept before it
-unfoldable pub keptIn : List Event → ℕ → List ℕ → List Row → Answer → Answer
-keptIn es i [] rs a = a
-keptIn es i (j ∷ o) rs a = keptIn es i o (stepRows (operationAt es j) rs) (cond (eqb i j) (answerRows (operationAt es j) rs) a)
-
--- the answer of event i, kept under its number; silent where it does not stand in the order
-unfoldable pub answersIn : List Event → List ℕ → List Row → ℕ → Answer
-answersIn es o rs i = keptIn es i o rs Answer.Silent
 
 -- the answer, or a where there is none
 abbrev pub givenOr : Answer → Option Answer → Answer

@@ -16,7 +16,8 @@ use Rattle.rows_step.proofs.Steps.{sorted-step}
 use Rattle.trace_events.specs.Events.{eventsOf, noEvent}
 use Rattle.trace_events.proofs.TraceLaws.{event-at}
 use Rattle.replay_answers.specs.Inner.{kept, noAnswer, keptAt}
-use Rattle.order_rows.specs.Runs.{operationAt, runRows, keptIn, answersIn}
+use Rattle.order_rows.specs.Runs.{operationAt}
+use Rattle.order_rows.specs.Inner.{runRows, keptIn, answersIn}
 use Rattle.order_run.specs.Types.{Answer, Event, Trace, Row, Kept, Operation}
 
 at-place : (o : List ℕ) (p : ℕ) → p < length o → drop p o ≡ getD o p 0 ∷ drop (p + 1) o

@@ -5,7 +5,7 @@ use Prim.Native.Nat.{ℕ, _+_, _≤_}
 use lib.ListN.{length}
 use Rattle.rows.specs.Rows.{rowsOf}
 use Rattle.replay_answers.specs.Inner.{keptAt}
-use Rattle.order_rows.specs.Runs.{runRows, answersIn}
+use Rattle.order_rows.specs.Inner.{runRows, answersIn}
 use Rattle.order_run.specs.Types.{Event, Rows, Ran}
 
 -- what running an order from the starting rows gives: the rows, the answers, and at most one row more for each event

@@ -36,7 +36,7 @@ enough s t o x a b e h k =
     record { tablesFit = λ n p. accepts (sym f ∙ p); answersFit = λ n p. accepts (sym f ∙ p) }
 
 -- what the call does where nothing is refused
-pub writes : (s t o : List ℕ) (x : Replayed) (old old' : List ℕ) → replayed s t o (length old) (length old') ≡ inr x → Writes x s t o old old'
+pub writes : (s t o : List ℕ) (x : Replayed) (old old' : List ℕ) → replayed s t o (length old) (length old') ≡ inr x → Writes (x .tables) (x .answers) s t o old old'
 writes s t o x old old' e = record {
   returned = ap replayAnswer e;
   tablesWritten = ap (λ y. written (tablesOut y) old) e;

@@ -2,3 +2,5 @@ pub mod RecordedOrder
 pub mod SameTexts
 pub mod Buffers
 pub mod Demand3
+pub mod InRange
+pub mod Rooms

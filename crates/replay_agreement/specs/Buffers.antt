@@ -6,7 +6,7 @@ use Prim.Native.Nat.{ℕ}
 use lib.ListN.{length}
 use Rattle.basics.specs.Text.{startingWith}
 use Rattle.refusals.specs.Checks.{written}
-use Rattle.replay_texts.specs.Writing.{Replayed, replayAnswer, tablesOut, answersOut}
+use Rattle.replay_texts.specs.Writing.{replayAnswer, tablesOut, answersOut}
 use Rattle.replay_call.specs.Replay.{replayed}
 use Rattle.replay_agreement.specs.Types.{Refusal, ReplayAnswer}
 
@@ -15,8 +15,9 @@ pub record LongEnough (trace tables o : List ℕ) (room room' : ℕ) : Type 0 wh
   pub tablesFit : (n : ℕ) → replayed trace tables o room room' ≡ inl (Refusal.TablesShort n) → ⊥
   pub answersFit : (n : ℕ) → replayed trace tables o room room' ≡ inl (Refusal.AnswersShort n) → ⊥
 
--- a replay into these two buffers returns the lengths of the texts x and writes them, each from its buffer's start
-pub record Writes (x : Replayed) (trace tables o old old' : List ℕ) : Type 0 where
-  pub returned : replayAnswer (replayed trace tables o (length old) (length old')) ≡ ReplayAnswer.Lengths (length (x .tables)) (length (x .answers))
-  pub tablesWritten : written (tablesOut (replayed trace tables o (length old) (length old'))) old ≡ startingWith (x .tables) old
-  pub answersWritten : written (answersOut (replayed trace tables o (length old) (length old'))) old' ≡ startingWith (x .answers) old'
+-- a replay into these two buffers returns the lengths of the two texts and writes them, each from its buffer's start, the bytes past
+-- it unchanged
+pub record Writes (ends answers : List ℕ) (trace tables o old old' : List ℕ) : Type 0 where
+  pub returned : replayAnswer (replayed trace tables o (length old) (length old')) ≡ ReplayAnswer.Lengths (length ends) (length answers)
+  pub tablesWritten : written (tablesOut (replayed trace tables o (length old) (length old'))) old ≡ startingWith ends old
+  pub answersWritten : written (answersOut (replayed trace tables o (length old) (length old'))) old' ≡ startingWith answers old'

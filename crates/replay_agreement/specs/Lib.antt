@@ -1,3 +1,4 @@
 pub mod Types
 pub mod Allowed
 pub mod Buffers
+pub mod Demand3

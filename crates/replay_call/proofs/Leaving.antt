@@ -8,22 +8,23 @@ use borrow.Author.Tests.{le-ltb}
 use lib.ListN.{length, length-take}
 use Rattle.refusals.specs.Checks.{Checked, _▹_, outcomeOf, written}
 use Rattle.trace_events.specs.Events.{eventsOf}
-use Rattle.rows.specs.Rows.{rowsOf, SortedRows}
+use Rattle.rows.specs.Rows.{rowsOf, SortedRows, tablesOf}
 use Rattle.tables_text.proofs.Accepted.{accepted-sorted}
 use Rattle.inputs.specs.Inputs.{readBoth}
 use Rattle.inputs.proofs.Both.{both-accepted, both-then}
 use Rattle.order_check.specs.Schedule.{checkOrder}
 use Rattle.order_check.proofs.Accepted.{order-accepted-iff}
 use Rattle.replay_answers.specs.Inner.{keptAt}
-use Rattle.order_rows.specs.Runs.{runRows}
+use Rattle.order_rows.specs.Inner.{runRows}
 use Rattle.order_run.specs.Inner.{RunsTo}
 use Rattle.order_rows.proofs.EndTables.{run-length}
-use Rattle.replay_texts.specs.Writing.{bothTexts, replayAnswer, tablesOut, answersOut}
-use Rattle.replay_texts.specs.Inner.{fittingBoth, Leaves}
+use Rattle.replay_texts.specs.Writing.{replayAnswer, tablesOut, answersOut}
+use Rattle.replay_texts.specs.Inner.{bothTexts, fittingBoth, Leaves}
 use Rattle.replay_texts.proofs.Leaving.{leaves-as, refused-as}
 use Rattle.replay_call.specs.Types.{Refusal, Outcome, Event, Trace, Row, Rows, Ran, ReplayAnswer}
-use Rattle.replay_call.specs.Replay.{textsOf, replayed}
-use Rattle.replay_call.specs.Inner.{ranFrom, orderedFrom}
+use Rattle.replay_call.specs.Replay.{replayed}
+use Rattle.replay_call.specs.Inner.{fromTables, rowTexts, ranFrom, orderedFrom}
+use Rattle.replay_call.proofs.RowsAreTables.{checks-are}
 
 -- ---- what an outcome says, by its case
 module _ {A : Type 0} (a : A) {o : Outcome} {x : Checked A} where
@@ -40,7 +41,7 @@ module _ (es : List Event) (o : List ℕ) (start : Rows) (ran : Ran) (runs : Run
 
   pub ran-through : (n a b : ℕ) {r : ReplayAnswer} {old new old' new' : List ℕ} → length es ≡ n
       → Leaves (fittingBoth (bothTexts (rowsOf (ran .rows)) (keptAt (ran .answers)) n) a b) r old new old' new' → Leaves (ranFrom es (rowsOf start) o a b) r old new old' new'
-  unfolding textsOf
+  unfolding rowTexts
   ran-through n a b size l =
       let held : length (runRows es o (rowsOf start)) ≤ 512 = omega (arith, run-length es o (rowsOf start), length-take (start .len) (start .rows)) in
       leaves-as ((λ i. fittingBoth (bothTexts (runs .rows i) (fun-ext (runs .answers) i) (sym size i)) a b) ∙ sym (rw (le-ltb 512 (length (runRows es o (rowsOf start))) held) refl)) l
@@ -62,16 +63,18 @@ order-short es o h p = omega (arith, order-accepted-iff es o .0 (sym p) .0 .size
 
 -- ---- the texts refused, or what follows
 module _ (s t o : List ℕ) (a b : ℕ) where
-  in-turn : (readBoth s t ▹ λ (es, rs). orderedFrom es rs o a b) ≡ replayed s t o a b
+  in-turn : (readBoth s t ▹ λ (es, rs). fromTables es (tablesOf rs) o a b) ≡ replayed s t o a b
   unfolding replayed
-  in-turn = both-then s t (λ es rs. orderedFrom es rs o a b)
+  in-turn = both-then s t (λ es rs. fromTables es (tablesOf rs) o a b)
 
   pub texts-refused : {e : Refusal} {old old' : List ℕ} → inl e ≡ readBoth s t → Leaves (replayed s t o a b) (ReplayAnswer.Refused e) old old old' old'
-  texts-refused p = refused-as (ap (λ x. x ▹ λ (es, rs). orderedFrom es rs o a b) p ∙ in-turn)
+  texts-refused p = refused-as (ap (λ x. x ▹ λ (es, rs). fromTables es (tablesOf rs) o a b) p ∙ in-turn)
 
   pub texts-accepted : (es : List Event) (rs : List Row) {r : ReplayAnswer} {old new old' new' : List ℕ} → inr (es, rs) ≡ readBoth s t
       → Leaves (orderedFrom es rs o a b) r old new old' new' → Leaves (replayed s t o a b) r old new old' new'
-  texts-accepted es rs p l = leaves-as (ap (λ x. x ▹ λ (es, rs). orderedFrom es rs o a b) p ∙ in-turn) l
+  texts-accepted es rs p l =
+      let h = both-accepted s t es rs (sym p) in
+      leaves-as (checks-are s t es rs (h .0) (h .1) o a b ∙ ap (λ x. x ▹ λ (es, rs). fromTables es (tablesOf rs) o a b) p ∙ in-turn) l
 
 -- the rows of accepted tables are in order
 pub start-sorted : (s t : List ℕ) (es : List Event) (rs : List Row) → inr (es, rs) ≡ readBoth s t → SortedRows rs

@@ -1,2 +1,3 @@
+pub mod RowsAreTables
 pub mod Leaving
 pub mod Theorems

@@ -4,17 +4,31 @@ use mathlib.Core.Logic.{inr}
 use Prim.Native.Nat.{ℕ}
 use lib.Dec.{ltb}
 use lib.ListN.{length}
+use Rattle.basics.specs.Searches.{sumBelow}
 use Rattle.refusals.specs.Checks.{Checked, _▹_, refuseIf, refuseShort}
+use Rattle.flow_table.specs.Switches.{Tables}
+use Rattle.order_meaning.specs.Tables.{endTables, answers}
+use Rattle.rows.specs.Rows.{tablesOf}
 use Rattle.trace_text.specs.TraceText.{readTrace}
 use Rattle.tables_text.specs.TableText.{readTables}
+use Rattle.tables_normal.specs.Normal.{tablesText}
 use Rattle.order_check.specs.Schedule.{checkOrder}
-use Rattle.order_rows.specs.Runs.{runRows, answersIn}
-use Rattle.replay_texts.specs.Writing.{Replayed, bothTexts}
-use Rattle.replay_call.specs.Types.{Refusal, Event, Row}
+use Rattle.order_rows.specs.Runs.{operationAt, givenOr}
+use Rattle.replay_answers.specs.Answers.{answersText}
+use Rattle.replay_texts.specs.Writing.{Replayed}
+use Rattle.replay_call.specs.Types.{Refusal, Answer, Event}
 
--- both texts, of an order of the events from the rows of a table text
-unfoldable pub textsOf : List Event → List ℕ → List Row → Replayed
-textsOf es o rs = bothTexts (runRows es o rs) (answersIn es o rs) (length es)
+-- the entries that the switches 0 to 15 hold
+unfoldable pub entriesHeld : Tables → ℕ
+entriesHeld ts = sumBelow (λ w. length (ts w)) 16
+
+-- the lines of the answers of an order of the events from these starting tables, by rising event
+unfoldable pub answerLines : List Event → List ℕ → Tables → List ℕ
+answerLines es o start = answersText (λ i. givenOr Answer.Silent (answers (operationAt es) o start i)) (length es)
+
+-- what is written of that order: the normal text of its end tables, and the lines of its answers
+abbrev pub textsOf : List Event → List ℕ → Tables → Replayed
+textsOf es o start = record { tables = tablesText (endTables (operationAt es) o start); answers = answerLines es o start }
 
 -- what replay makes of a trace's text, a table text, an order and the lengths of its two buffers, a line a check:
 -- 1 to 8; 11 to 16; 21, 22; 41; 32; 33
@@ -23,7 +37,7 @@ replayed trace tables o room room' =
     readTrace trace ▹ λ es.
     readTables tables ▹ λ rs.
     checkOrder es o ▹ λ _.
-    refuseIf (ltb 512 (length (runRows es o rs))) Refusal.TooManyEntries ▹ λ _.
-    refuseShort room (textsOf es o rs .tables) Refusal.TablesShort ▹ λ _.
-    refuseShort room' (textsOf es o rs .answers) Refusal.AnswersShort ▹ λ _.
-    inr (textsOf es o rs)
+    refuseIf (ltb 512 (entriesHeld (endTables (operationAt es) o (tablesOf rs)))) Refusal.TooManyEntries ▹ λ _.
+    refuseShort room (textsOf es o (tablesOf rs) .tables) Refusal.TablesShort ▹ λ _.
+    refuseShort room' (textsOf es o (tablesOf rs) .answers) Refusal.AnswersShort ▹ λ _.
+    inr (textsOf es o (tablesOf rs))

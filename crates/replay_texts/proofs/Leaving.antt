@@ -12,8 +12,8 @@ use Rattle.text_numbers.proofs.Writing.{put-whole}
 use Rattle.tables_normal.specs.Normal.{normalText}
 use Rattle.replay_answers.specs.Answers.{answersText}
 use Rattle.replay_texts.specs.Types.{Refusal, Answer, Row, ReplayAnswer}
-use Rattle.replay_texts.specs.Writing.{Replayed, bothTexts, replayAnswer, tablesOut, answersOut}
-use Rattle.replay_texts.specs.Inner.{fittingBoth, Leaves}
+use Rattle.replay_texts.specs.Writing.{Replayed, replayAnswer, tablesOut, answersOut}
+use Rattle.replay_texts.specs.Inner.{bothTexts, fittingBoth, Leaves}
 
 module _ {y z : Checked Replayed} {r : ReplayAnswer} {old new old' new' : List ℕ} where
   pub leaves-as : y ≡ z → Leaves y r old new old' new' → Leaves z r old new old' new'

@@ -3,9 +3,15 @@ use mathlib.Core.Path.{_≡_}
 use mathlib.Core.List.{List}
 use mathlib.Core.Logic.{inr}
 use Prim.Native.Nat.{ℕ}
+use Rattle.tables_normal.specs.Normal.{normalText}
+use Rattle.replay_answers.specs.Answers.{answersText}
 use Rattle.refusals.specs.Checks.{Checked, _▹_, refuseShort, written}
-use Rattle.replay_texts.specs.Types.{Refusal, ReplayAnswer}
+use Rattle.replay_texts.specs.Types.{Refusal, Answer, Row, ReplayAnswer}
 use Rattle.replay_texts.specs.Writing.{Replayed, replayAnswer, tablesOut, answersOut}
+
+-- both texts, of the end rows and the answers of the events below n
+unfoldable pub bothTexts : List Row → (ℕ → Answer) → ℕ → Replayed
+bothTexts rs given n = record { tables = normalText rs; answers = answersText given n }
 
 -- 32; 33; then both texts
 abbrev pub fittingBoth : Replayed → ℕ → ℕ → Checked Replayed

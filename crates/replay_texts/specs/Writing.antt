@@ -4,18 +4,12 @@ use mathlib.Core.Logic.{inl, inr}
 use Prim.Native.Nat.{ℕ}
 use lib.ListN.{length}
 use Rattle.refusals.specs.Checks.{Checked, _▹_}
-use Rattle.tables_normal.specs.Normal.{normalText}
-use Rattle.replay_answers.specs.Answers.{answersText}
-use Rattle.replay_texts.specs.Types.{Answer, Row, ReplayAnswer}
+use Rattle.replay_texts.specs.Types.{ReplayAnswer}
 
 -- what a replay writes: the normalised end tables, and the answers by rising event
 pub record Replayed : Type 0 where
   pub tables : List ℕ
   pub answers : List ℕ
-
--- both texts, of the end rows and the answers of the events below n
-unfoldable pub bothTexts : List Row → (ℕ → Answer) → ℕ → Replayed
-bothTexts rs given n = record { tables = normalText rs; answers = answersText given n }
 
 -- what is returned: both lengths, or the refusal
 abbrev pub replayAnswer : Checked Replayed → ReplayAnswer

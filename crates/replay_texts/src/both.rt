@@ -7,8 +7,7 @@ ghost use Prim.Native.Nat.{_≤_};
 ghost use lib.ListN.{length};
 ghost use Rattle.rows.specs.Rows.{rowsOf};
 ghost use Rattle.replay_answers.specs.Inner.{keptAt};
-ghost use Rattle.replay_texts.specs.Writing.{bothTexts};
-ghost use Rattle.replay_texts.specs.Inner.{fittingBoth, Leaves};
+ghost use Rattle.replay_texts.specs.Inner.{bothTexts, fittingBoth, Leaves};
 
 // Both texts, each from its buffer's start; nothing is written where one of them does not fit.
 pub fn write_both(

@@ -1,3 +1,4 @@
 pub mod RowOrder
 pub mod RowLaws
 pub mod TablesOf
+pub mod Gathered

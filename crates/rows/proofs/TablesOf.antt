@@ -43,7 +43,7 @@ sorted-table w (x ∷ xs) s = go (eqb w (x .switch)) refl (sorted-table w xs (s 
     go false e ih = ih
 
 -- ---- a row is there just if its entry is in the table of its switch; so the tables determine the rows
-row-entry : (x : Row) (rs : List Row) → List·Memᴰ x rs → List·Memᴰ (x .entry) (tableOf (x .switch) rs)
+pub row-entry : (x : Row) (rs : List Row) → List·Memᴰ x rs → List·Memᴰ (x .entry) (tableOf (x .switch) rs)
 row-entry x [] m = absurd (List·Memᴰ·not-nil m)
 row-entry x (y ∷ ys) m = ⊎-elim here (λ n. there (eqb (x .switch) (y .switch)) (row-entry x ys n)) (List·Memᴰ·cases-cons m)
   where
@@ -54,7 +54,7 @@ row-entry x (y ∷ ys) m = ⊎-elim here (λ n. there (eqb (x .switch) (y .switc
     there true n = List·Memᴰ·tail n
     there false n = n
 
-entry-row : (w : ℕ) (e : Entry) (rs : List Row) → List·Memᴰ e (tableOf w rs) → List·Memᴰ (row w e) rs
+pub entry-row : (w : ℕ) (e : Entry) (rs : List Row) → List·Memᴰ e (tableOf w rs) → List·Memᴰ (row w e) rs
 entry-row w e [] m = absurd (List·Memᴰ·not-nil m)
 entry-row w e (y ∷ ys) m = go (eqb w (y .switch)) refl m (entry-row w e ys)
   where

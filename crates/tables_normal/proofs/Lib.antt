@@ -1,3 +1,4 @@
 pub mod Normalising
 pub mod Writing
 pub mod Theorems
+pub mod OfTables

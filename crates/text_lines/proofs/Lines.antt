@@ -1,7 +1,7 @@
 -- What the lines of a text are.
 use Prim.Native.Nat.{ℕ, zero, suc, _+_, _-_, _<_}
 use mathlib.Core.Bool.{Bool, true, false, cond}
-use mathlib.Core.List.{List, [], _∷_, _++_}
+use mathlib.Core.List.{List, [], _∷_, _++_, append-assoc}
 use mathlib.Core.Path.{_≡_, refl, sym, _∙_, ap}
 use native.Mathlib.Numerals.{add-one}
 use native.Mathlib.Omega.{arith}
@@ -122,3 +122,9 @@ pub unlines-ends : (ls : List (List ℕ)) → endsWithLf (unlines ls) ≡ true
 unfolding unlines endsWithLf
 unlines-ends [] = refl
 unlines-ends (l ∷ ls) = ends-append l 10 (unlines ls) ∙ ends-lf (unlines ls) (unlines-ends ls)
+
+-- the text of lines one after the other
+pub unlines-append : (ls ms : List (List ℕ)) → unlines (ls ++ ms) ≡ unlines ls ++ unlines ms
+unfolding unlines
+unlines-append [] ms = refl
+unlines-append (l ∷ ls) ms = ap (λ (s : List ℕ). l ++ 10 ∷ s) (unlines-append ls ms) ∙ sym (append-assoc l (10 ∷ unlines ls) (unlines ms))

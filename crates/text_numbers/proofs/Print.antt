@@ -52,6 +52,23 @@ pub print-length : (n : ℕ) → length (printNumber n) ≤ 10
 unfolding printNumber
 print-length n = decimal-length 10 n
 
+-- a number below 10 ^ k has at most k digits
+decimal-short : (j k n : ℕ) → n < 10 ^ suc k → length (decimal j n) ≤ suc k
+unfolding decimal
+decimal-short zero k n h = omega arith
+decimal-short (suc j) zero n h = rw (lt-ltb n 10 h) (omega arith)
+decimal-short (suc j) (suc k) n h =
+    elim (decLt n 10) [
+      | yes l ↦ rw (lt-ltb _ _ l) (omega arith)
+      | no l ↦ let g : 10 ≤ n = omega arith in
+          let p : n < 10 ^ suc k * 10 = rw pow-suc at h in
+          rw (le-ltb _ _ g, length-append) (omega (arith, decimal-short j k (n / 10) (omega arith)))
+    ]
+
+pub print-short : (k n : ℕ) → n < 10 ^ suc k → length (printNumber n) ≤ suc k
+unfolding printNumber
+print-short k n h = decimal-short 10 k n h
+
 -- ---- hexadecimal
 pub hexadecimal-length : (k n : ℕ) → length (hexadecimal k n) ≡ k
 unfolding hexadecimal

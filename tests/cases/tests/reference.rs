@@ -118,7 +118,7 @@ fn every_refusal_is_reached() {
 
 /// End tables and answers in one order.
 fn replayed(trace: &[u8], tables: &[u8], order: &[u8]) -> Result<(Vec<u8>, Vec<u8>), u8> {
-    let (mut end, mut answers) = (vec![0; 53_760], vec![0; 7_424]);
+    let (mut end, mut answers) = (vec![0; 53_760], vec![0; 7_168]);
     match replay(trace, tables, order, &mut end, &mut answers) {
         Ok(lengths) => {
             end.truncate(lengths.tables);

@@ -14,7 +14,7 @@ use reference::replay::recorded_order;
 use std::collections::BTreeMap;
 
 const LIST_ROOM: usize = 65_280;
-const ROOMS: [usize; 2] = [53_760, 7_424];
+const ROOMS: [usize; 2] = [53_760, 7_168];
 
 /// How often each refusal was met; 0 stands for none.
 #[derive(Default)]

@@ -111,13 +111,13 @@ fn worst_cases() {
             let _ = list(trace, room);
         }
         for tables in [&b""[..], &tables::reversed(), &tables::sorted()] {
-            let written = replay(trace, tables, &recorded_order(256), [53_760, 7_424]).expect("all valid");
+            let written = replay(trace, tables, &recorded_order(256), [53_760, 7_168]).expect("all valid");
             for room in lengths_around(written.tables.len()) {
-                let _ = replay(trace, tables, &recorded_order(256), [room, 7_424]);
+                let _ = replay(trace, tables, &recorded_order(256), [room, 7_168]);
             }
             let mut backward = recorded_order(256);
             backward.reverse();
-            let _ = replay(trace, tables, &backward, [53_760, 7_424]);
+            let _ = replay(trace, tables, &backward, [53_760, 7_168]);
         }
     }
     let normal = normalise(&tables::reversed(), 65_535).expect("valid tables");

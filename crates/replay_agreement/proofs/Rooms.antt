@@ -1,0 +1,168 @@
+-- Buffers of these lengths are never too short: 26,880 bytes for a normal text (`normal-room`), 53,760 for end tables (`tables-room`),
+-- 7,168 for answers (`answers-room`), 65,280 for a list (`list-room`). A line of a table has at most 105 bytes, an answer line 28,
+-- and there are such lines (`row-longest`, `answer-longest`). Assumes nothing.
+use mathlib.Core.Path.{_≡_, refl, ap, subst}
+use mathlib.Core.Bool.{Bool, true, false, cond}
+use mathlib.Core.Logic.{inr}
+use mathlib.Core.Option.{Option, none, some}
+use mathlib.Core.List.{List, [], _∷_, _++_, List·Memᴰ, List·Memᴰ·head, List·Memᴰ·tail, List·Memᴰ·not-nil}
+use Prim.Native.Nat.{ℕ, zero, suc, _+_, _*_, _≤_, _<_}
+use native.Mathlib.Decide.{decLt}
+use native.Mathlib.Omega.{arith}
+use lib.Dec.{eqb}
+use lib.ListN.{length, length-append}
+use Rattle.basics.specs.Text.{bytes}
+use Rattle.text_numbers.specs.Print.{decimal, printNumber, hexDigit, hexadecimal, printHex}
+use Rattle.text_numbers.proofs.Print.{print-short}
+use Rattle.text_fields.specs.Types.{Exact, Prefix, Match}
+use Rattle.text_fields.specs.Print.{printExact, printPrefix, printLast, printSix, printMatch, printAction, printKey, printEntry}
+use Rattle.text_put_fields.proofs.Lengths.{action-most, entry-most}
+use Rattle.text_lines.specs.Lines.{unlines}
+use Rattle.flow_table.specs.FlowTable.{TableInRange, entry}
+use Rattle.order_meaning.specs.Tables.{endTables, answers}
+use Rattle.rows.specs.Rows.{row, tableOf, tablesOf}
+use Rattle.rows.proofs.TablesOf.{row-entry}
+use Rattle.list_pairs.specs.List.{listOf, pairBytes}
+use Rattle.list_pairs.proofs.PairLaws.{bytes-length}
+use Rattle.list_pairs.proofs.Sizes.{count-most}
+use Rattle.list_verdicts.specs.Kinds.{listed}
+use Rattle.trace_text.specs.TraceText.{readTrace}
+use Rattle.trace_text.proofs.Accepted.{trace-accepted-iff}
+use Rattle.tables_text.specs.TableText.{printRow, RowInRange, readTables}
+use Rattle.tables_text.proofs.Accepted.{accepted-sorted, accepted-range, accepted-length}
+use Rattle.tables_normal.specs.Normal.{normalText, tablesText}
+use Rattle.order_check.specs.Schedule.{checkOrder}
+use Rattle.order_check.proofs.Accepted.{order-accepted-iff}
+use Rattle.order_rows.specs.Runs.{operationAt, givenOr}
+use Rattle.order_rows.specs.Inner.{runRows}
+use Rattle.order_rows.proofs.EndTables.{run-tables}
+use Rattle.replay_answers.specs.Answers.{printItem, isSilent, printAnswer, answersText}
+use Rattle.replay_call.specs.Replay.{answerLines}
+use Rattle.replay_call.proofs.RowsAreTables.{events-in-range, end-beyond, end-text, end-count}
+use Rattle.replay_call.proofs.Theorems.{never-41}
+use Rattle.replay_agreement.specs.Types.{Action, Answer, Event, Row}
+use Rattle.replay_agreement.specs.Buffers.{LongEnough}
+use Rattle.replay_agreement.proofs.InRange.{AnswerShort, Short, end-in-range, answers-short, table-in-range, entry-in-range}
+use Rattle.replay_agreement.proofs.Demand3.{room-enough}
+
+-- ---- the longest lines
+abbrev longestRow : Row
+longestRow =
+    let address : Prefix = record { value = 4294967295; length = 32 } in
+    let port = Exact.Is 65535 in
+    let pattern : Match = record { port = port; src = address; dst = address; proto = Exact.Is 255; sport = port; dport = port } in
+    row 15 (entry (record { priority = 65535; pattern = pattern }) (Action.Port 65535))
+
+-- 104 bytes, and its LF
+pub row-longest : printRow longestRow ≡ bytes "sw=15 prio=65535 port=65535 src=ffffffff/32 dst=ffffffff/32 proto=255 sport=65535 dport=65535 act=p65535"
+unfolding printRow printEntry printKey printMatch printSix printLast printExact printPrefix printAction printNumber decimal printHex hexadecimal hexDigit
+row-longest = refl
+
+-- 28 bytes
+pub answer-longest : printAnswer 255 (Answer.Hit 65535 511 (Action.Port 65535)) ≡ bytes "ev=255 hit=65535,511,p65535\n"
+unfolding printAnswer printItem printAction printNumber decimal
+answer-longest = refl
+
+-- ---- lines of tables
+row-most : (r : Row) → RowInRange r → length (printRow r) ≤ 104
+unfolding printRow
+row-most r h = let w = h .switch in simp length-append (omega (arith, print-short 1 (r .switch) (omega arith), entry-most (r .entry) (h .entry)))
+
+normal-most : (rs : List Row) → ((r : Row) → List·Memᴰ r rs → RowInRange r) → length (normalText rs) ≤ 105 * length rs
+unfolding normalText unlines
+normal-most [] h = omega arith
+normal-most (r ∷ rs) h = simp length-append (omega (arith, row-most r (h r (List·Memᴰ·head refl)), normal-most rs (λ x m. h x (List·Memᴰ·tail m))))
+
+-- the normal text of an accepted table text
+pub normal-room : (t : List ℕ) (rs : List Row) → readTables t ≡ inr rs → length (normalText rs) ≤ 26880
+normal-room t rs e = omega (arith, normal-most rs (accepted-range t rs e), accepted-length t rs e)
+
+-- ---- answer lines
+item-most : (a : Answer) → AnswerShort a → length (printItem a) ≤ 21
+unfolding printItem
+item-most Answer.Silent h = omega arith
+item-most Answer.Miss h = omega arith
+item-most (Answer.Hit priority count a) h =
+    let p = h .0 in
+    let n = h .1 in
+    simp length-append (omega (arith, print-short 4 priority (omega arith), print-short 2 count (omega arith), action-most a (h .2)))
+item-most (Answer.Done true) h = omega arith
+item-most (Answer.Done false) h = omega arith
+
+answer-most : (i : ℕ) (a : Answer) → i < 256 → AnswerShort a → length (printAnswer i a) ≤ 28
+unfolding printAnswer
+answer-most i a l h = go (isSilent a)
+  where
+    go : (b : Bool) → length (cond b [] (bytes "ev=" ++ (printNumber i ++ (printItem a ++ bytes "\n")))) ≤ 28
+    go true = omega arith
+    go false = simp length-append (omega (arith, print-short 2 i (omega arith), item-most a h))
+
+text-most : (f : ℕ → Answer) → ((i : ℕ) → AnswerShort (f i)) → (n : ℕ) → n ≤ 256 → length (answersText f n) ≤ 28 * n
+unfolding answersText
+text-most f h zero l = omega arith
+text-most f h (suc n) l = simp length-append (omega (arith, text-most f h n (omega arith), answer-most n (f n) (omega arith) (h n)))
+
+given-short : (x : Option Answer) → Short x → AnswerShort (givenOr Answer.Silent x)
+given-short none h = tt
+given-short (some a) h = h
+
+table-length : (w : ℕ) (rs : List Row) → length (tableOf w rs) ≤ length rs
+table-length w [] = omega arith
+table-length w (x ∷ xs) = go (eqb w (x .switch)) (table-length w xs)
+  where
+    go : (b : Bool) → length (tableOf w xs) ≤ length xs → length (cond b (x .entry ∷ tableOf w xs) (tableOf w xs)) ≤ suc (length xs)
+    go true ih = omega arith
+    go false ih = omega arith
+
+-- ---- of an accepted trace
+module _ (s : List ℕ) (es : List Event) (trace : readTrace s ≡ inr es) where
+  few : length es ≤ 256
+  few = trace-accepted-iff s es .0 trace .few
+
+  -- its list
+  pub list-room : length (pairBytes (listOf es)) ≤ 65280
+  list-room = omega (arith, bytes-length (listOf es), count-most listed es few)
+
+  -- and the replay of an accepted order from an accepted table text
+  module _ (t : List ℕ) (rs : List Row) (tables : readTables t ≡ inr rs) (o : List ℕ) (order : checkOrder es o ≡ inr tt) where
+    start-in-range : (w : ℕ) → TableInRange (tableOf w rs)
+    start-in-range w = table-in-range w rs (λ r m. accepted-range t rs tables r m .entry)
+
+    end-rows-in-range : (r : Row) → List·Memᴰ r (runRows es o rs) → RowInRange r
+    end-rows-in-range r m =
+        let here = row-entry r (runRows es o rs) m in record {
+          switch = elim (decLt (r .switch) 16) [
+            | yes l ↦ l
+            | no l ↦ absurd (List·Memᴰ·not-nil (subst (List·Memᴰ (r .entry)) (end-beyond s t es rs trace tables o (r .switch) (omega arith)) here))
+          ];
+          entry = entry-in-range (endTables (operationAt es) o (tablesOf rs) (r .switch))
+              (end-in-range (operationAt es) (λ i. events-in-range s es trace i .effect) o (tablesOf rs) start-in-range (r .switch))
+              (r .entry) (subst (List·Memᴰ (r .entry)) (run-tables es o rs (accepted-sorted t rs tables) (r .switch)) here);
+        }
+
+    -- its end tables
+    pub tables-room : length (tablesText (endTables (operationAt es) o (tablesOf rs))) ≤ 53760
+    tables-room =
+        omega (
+          arith,
+          ap length (end-text s t es rs trace tables o),
+          normal-most (runRows es o rs) end-rows-in-range,
+          end-count s t es rs trace tables o,
+          never-41 s t o es rs trace tables order,
+        )
+
+    -- its answers
+    pub answers-room : length (answerLines es o (tablesOf rs)) ≤ 7168
+    unfolding answerLines
+    answers-room =
+        let size = order-accepted-iff es o .0 order .0 .size in
+        let held = accepted-length t rs tables in
+        let most = text-most (λ i. givenOr Answer.Silent (answers (operationAt es) o (tablesOf rs) i))
+        (λ i. given-short (answers (operationAt es) o (tablesOf rs) i)
+        (answers-short (operationAt es) (λ k. events-in-range s es trace k .effect) o (tablesOf rs) start-in-range (λ w. omega (arith, few, table-length w rs)) i))
+        (length es) few in
+        omega (arith, few)
+
+    -- so neither 32 nor 33 applies
+    pub never-short : (a b : ℕ) → 53760 ≤ a → 7168 ≤ b → LongEnough s t o a b
+    never-short a b h k = room-enough s es trace t rs tables o order a b (omega (arith, tables-room)) (omega (arith, answers-room))

@@ -1,0 +1,75 @@
+-- What the replay call does on rows is what is defined on tables: for an accepted trace and table text the end rows are the end tables,
+-- in text (`end-text`) and in number (`end-count`), and with an accepted order both texts are (`texts-are`). Assumes nothing.
+use mathlib.Core.Path.{_≡_, refl, ap, _∙_, fun-ext}
+use mathlib.Core.List.{List, [], _∷_}
+use mathlib.Core.Logic.{inl, inr}
+use Prim.Native.Nat.{ℕ, zero, suc, _≤_}
+use native.Mathlib.Omega.{arith}
+use lib.Dec.{ltb}
+use lib.ListN.{length}
+use Rattle.refusals.specs.Checks.{Checked, _▹_, refuseIf}
+use Rattle.order_meaning.specs.Tables.{endTables}
+use Rattle.rows.specs.Rows.{SortedRows, tableOf, tablesOf}
+use Rattle.rows.proofs.Gathered.{rows-counted}
+use Rattle.trace_events.specs.Events.{eventAt}
+use Rattle.trace_line.specs.Written.{EventInRange}
+use Rattle.trace_line.proofs.EventRanges.{event-range}
+use Rattle.trace_text.specs.TraceText.{readTrace}
+use Rattle.trace_text.specs.Meaning.{AllWritten}
+use Rattle.trace_text.proofs.Accepted.{trace-accepted-iff}
+use Rattle.tables_text.specs.TableText.{readTables}
+use Rattle.tables_text.proofs.Accepted.{accepted-sorted}
+use Rattle.tables_normal.specs.Normal.{normalText, tablesText}
+use Rattle.tables_normal.proofs.OfTables.{normal-tables, accepted-beyond}
+use Rattle.order_check.specs.Schedule.{checkOrder}
+use Rattle.order_check.proofs.Accepted.{order-accepted-iff}
+use Rattle.order_rows.specs.Runs.{operationAt}
+use Rattle.order_rows.specs.Inner.{runRows}
+use Rattle.order_rows.proofs.EndTables.{run-tables, run-answers, run-sorted, run-beyond}
+use Rattle.replay_answers.specs.Answers.{answersText}
+use Rattle.replay_texts.specs.Inner.{bothTexts, fittingBoth}
+use Rattle.replay_call.specs.Types.{Refusal, Event, Row}
+use Rattle.replay_call.specs.Replay.{entriesHeld, answerLines, textsOf}
+use Rattle.replay_call.specs.Inner.{fromTables, rowTexts, ranFrom, orderedFrom}
+
+-- what every event of an accepted trace does is in range, on one of the 16 switches
+written-range : (es : List Event) → AllWritten es → (i : ℕ) → EventInRange (eventAt es i)
+written-range [] w i = record { effect = tt; switch = omega arith }
+written-range (e ∷ es) w zero = event-range e (w .0 .0) (w .0 .1)
+written-range (e ∷ es) w (suc i) = written-range es (w .1) i
+
+pub events-in-range : (s : List ℕ) (es : List Event) → readTrace s ≡ inr es → (i : ℕ) → EventInRange (eventAt es i)
+events-in-range s es trace = written-range es (trace-accepted-iff s es .0 trace .written)
+
+module _ (s t : List ℕ) (es : List Event) (rs : List Row) (trace : readTrace s ≡ inr es) (tables : readTables t ≡ inr rs) where
+  sorted : SortedRows rs
+  sorted = accepted-sorted t rs tables
+
+  pub end-beyond : (q : List ℕ) (w : ℕ) → 16 ≤ w → tableOf w (runRows es q rs) ≡ []
+  end-beyond q = run-beyond es 16 (λ i. events-in-range s es trace i .switch) q rs sorted (accepted-beyond t rs tables)
+
+  -- of any part of an order: the text of the end rows
+  pub end-text : (q : List ℕ) → normalText (runRows es q rs) ≡ tablesText (endTables (operationAt es) q (tablesOf rs))
+  end-text q = normal-tables (runRows es q rs) (run-sorted es q rs sorted) (end-beyond q) ∙ ap tablesText (fun-ext (run-tables es q rs sorted))
+
+  -- and their number
+  pub end-count : (q : List ℕ) → length (runRows es q rs) ≡ entriesHeld (endTables (operationAt es) q (tablesOf rs))
+  unfolding entriesHeld
+  end-count q = rows-counted 16 (runRows es q rs) (run-sorted es q rs sorted) (end-beyond q) ∙ ap entriesHeld (fun-ext (run-tables es q rs sorted))
+
+  module _ (o : List ℕ) where
+    pub texts-are : checkOrder es o ≡ inr tt → rowTexts es o rs ≡ textsOf es o (tablesOf rs)
+    unfolding rowTexts answerLines bothTexts
+    texts-are order =
+        let given = fun-ext (run-answers es (length es) o (order-accepted-iff es o .0 order .0) rs sorted) in
+        λ i. record { tables = end-text o i; answers = answersText (given i) (length es) }
+
+    -- the checks on rows are those on tables
+    pub checks-are : (a b : ℕ) → orderedFrom es rs o a b ≡ fromTables es (tablesOf rs) o a b
+    checks-are a b = go (checkOrder es o) refl
+      where
+        go : (x : Checked (Unit {0})) → checkOrder es o ≡ x
+            → (x ▹ λ _. ranFrom es rs o a b)
+            ≡ (x ▹ λ _. refuseIf (ltb 512 (entriesHeld (endTables (operationAt es) o (tablesOf rs)))) Refusal.TooManyEntries ▹ λ _. fittingBoth (textsOf es o (tablesOf rs)) a b)
+        go (inl r) e = refl
+        go (inr u) e = λ i. refuseIf (ltb 512 (end-count o i)) Refusal.TooManyEntries ▹ λ _. fittingBoth (texts-are e i) a b

@@ -33,7 +33,7 @@ pub record Accepted (s : List ℕ) (rs : List Row) : Type 0 where
   pub read : ReadAs 0 (lines s) each
   pub order : sortRows each ≡ inr rs
 
-accepted : (s : List ℕ) (rs : List Row) → readTables s ≡ inr rs → Accepted s rs
+pub accepted : (s : List ℕ) (rs : List Row) → readTables s ≡ inr rs → Accepted s rs
 unfolding readTables
 accepted s rs e = go (limitOf s) refl e
   where

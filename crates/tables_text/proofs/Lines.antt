@@ -7,7 +7,7 @@ use mathlib.Core.Option.{Option, none, some, Option·some-injective}
 use mathlib.Core.Path.{_≡_, refl, sym, _∙_, ap}
 use native.Mathlib.Omega.{arith}
 use lib.ListN.{length, getElem?}
-use Rattle.text_reader.proofs.Each.{refuses, accepts, Each, each-length, each-only, each-reads, each-refused}
+use Rattle.text_reader.proofs.Each.{refuses, Each, each-length, each-only, each-reads}
 use Rattle.text_reader.specs.Each.{readEach}
 use Rattle.text_numbers.proofs.Readers.{nothing}
 use Rattle.refusals.specs.Checks.{_▹_, refuseNone, refuseIf}
@@ -42,30 +42,12 @@ row-line : (k : ℕ) (l : List ℕ) (r : Row) → RowOf k l r → readRowLine k 
 unfolding readRowLine
 row-line k l r h = rw (h .0, row-range r .1 (h .1) .1)
 
--- no line is refused for its key
-other-refusal : (k j : ℕ) (l : List ℕ) → readRowLine k l ≡ inl (Refusal.KeyTwice j) → ⊥
-unfolding readRowLine
-other-refusal k j l e = go (readRow l) e
-  where
-    fits : (x : Row) (b : Bool) → (refuseIf (not b) (Refusal.TablesAddressBit k) ▹ λ _. inr x) ≡ inl (Refusal.KeyTwice j) → ⊥
-    fits x true p = accepts p
-    fits x false p = let z : _≡_ {A = ℕ} 0 1 = cc in omega arith
-
-    go : (o : Option Row) → (refuseNone o (Refusal.TablesMalformed k) ▹ λ x. refuseIf (not (clearEntry (x .entry))) (Refusal.TablesAddressBit k) ▹ λ _. inr x) ≡ inl (Refusal.KeyTwice j) → ⊥
-    go none p = let z : _≡_ {A = ℕ} 0 1 = cc in omega arith
-    go (some x) p = fits x (clearEntry (x .entry)) p
-
 -- ---- the lines
 pub read-as : (k : ℕ) (ls : List (List ℕ)) (rs : List Row) → readEach readRowLine k ls ≡ inr rs → ReadAs k ls rs
 read-as = each-only readRowLine RowOf only-row
 
 pub as-read : (k : ℕ) (ls : List (List ℕ)) (rs : List Row) → ReadAs k ls rs → readEach readRowLine k ls ≡ inr rs
 as-read = each-reads readRowLine RowOf row-line
-
-pub no-key-twice : (k j : ℕ) (ls : List (List ℕ)) → readEach readRowLine k ls ≡ inl (Refusal.KeyTwice j) → ⊥
-no-key-twice k j ls e =
-    let (i, l, a, b, p) = each-refused readRowLine k ls (Refusal.KeyTwice j) e in
-    other-refusal i j l p
 
 -- ---- what the lines hold
 pub same-length : (k : ℕ) (ls : List (List ℕ)) (rs : List Row) → ReadAs k ls rs → length ls ≡ length rs

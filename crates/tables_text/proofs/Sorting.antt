@@ -18,7 +18,7 @@ use Rattle.tables_text.specs.TableText.{firstTwice, placed, inOrder}
 use Rattle.tables_text.specs.Inner.{sortedRows}
 
 -- a place that holds an element lies in the list
-held : {A : Type 0} (l : List A) (k : ℕ) (x : A) → getElem? l k ≡ some x → k < length l
+pub held : {A : Type 0} (l : List A) (k : ℕ) (x : A) → getElem? l k ≡ some x → k < length l
 held [] k x e = nothing e
 held (y ∷ l) zero x e = omega arith
 held (y ∷ l) (suc k) x e = omega (arith, held l k x e)
@@ -50,13 +50,6 @@ pub order-checked : (rs qs : List Row) → sortRows rs ≡ inr qs → sortedRows
 order-checked rs qs e = rw (sort-none rs qs e, sort-order rs qs e)
 
 -- and what the sort answers, by the checks
-pub checked-twice : (rs : List Row) (k : ℕ) → sortedRows rs ≡ inl (Refusal.KeyTwice k) → sortRows rs ≡ inl k
-checked-twice rs k e = go (sortRows rs) refl
-  where
-    go : (x : ℕ ⊎ List Row) → sortRows rs ≡ x → sortRows rs ≡ inl k
-    go (inl j) p = let q : inl (Refusal.KeyTwice j) ≡ inl (Refusal.KeyTwice k) = sym (twice-checked rs j p) ∙ e in let h : j ≡ k = cc in p ∙ ap inl h
-    go (inr qs) p = accepts (sym (order-checked rs qs p) ∙ e)
-
 pub checked-order : (rs qs : List Row) → sortedRows rs ≡ inr qs → sortRows rs ≡ inr qs
 checked-order rs qs e = go (sortRows rs) refl
   where

@@ -1,3 +1,4 @@
 pub mod Types
 pub mod TableText
+pub mod Meaning
 pub mod Inner

@@ -67,7 +67,13 @@ lines-only k (l ∷ ls) (e ∷ es) h b =
     let n = g .2 in
     (ap {B = List (List ℕ)} (λ y. y ∷ ls) (f .3) ∙ ap (λ y. printLine k e ∷ y) (g .0), ((f .1, f .2), g .1), omega arith)
 
-lines-read : (es : List Event) (k : ℕ) → AllWritten es → k + length es ≤ 256 → readEach readEvent k (printFrom k es) ≡ inr es
+-- the lines that read as events are theirs, and at most 256
+pub events-read : (ls : List (List ℕ)) (es : List Event) → readEach readEvent 0 ls ≡ inr es → (ls ≡ printFrom 0 es) × AllWritten es × (length es ≤ 256)
+events-read ls es e =
+    let (p, w, n) = lines-only 0 ls es (each-only readEvent LineOf event-only 0 ls es e) (omega arith) in
+    (p, w, omega arith)
+
+pub lines-read : (es : List Event) (k : ℕ) → AllWritten es → k + length es ≤ 256 → readEach readEvent k (printFrom k es) ≡ inr es
 unfolding readEach
 lines-read [] k w b = refl
 lines-read (e ∷ es) k w b = rw (event-reads k e (omega arith) (w .0 .0) (w .0 .1), lines-read es (k + 1) (w .1) (omega arith)) refl
@@ -109,12 +115,11 @@ trace-only s es h =
     let (fs, q, v) = handed-on (readEach readEvent 0 (lines s)) checkTokens u in
     let w = limit-within s (limit-kept (limitOf s) _ _ _ p) in
     let t = tokens-only fs es v in
-    let l = lines-only 0 (lines s) fs (each-only readEvent LineOf event-only 0 (lines s) fs q) (omega arith) in
-    let n = l .2 in
+    let l = events-read (lines s) fs q in
     rw (← t .0) (record {
       bytes = w .bytes;
       ended = w .ended;
-      few = omega arith;
+      few = l .2;
       printed = l .0;
       written = l .1;
       once = t .1 .0;

@@ -1,5 +1,5 @@
 -- The answer is that of the two checks in turn: is the order complete, and then, what the search found.
-use mathlib.Core.Path.{_≡_, sym, ap, _∙_}
+use mathlib.Core.Path.{_≡_, refl, sym, ap, _∙_}
 use native.Mathlib.Omega.{arith}
 use denote.Ref.{now}
 use lib.ListN.{length}
@@ -12,6 +12,7 @@ use Rattle.refusals.specs.Checks.{refuseAt}
 use Rattle.order_check.specs.Types.{Refusal}
 use Rattle.order_check.specs.Schedule.{checkOrder}
 use Rattle.order_check.specs.Inner.{asPosition}
+use Rattle.order_check.proofs.Flags.{complete-iff}
 use Rattle.order_check.proofs.Accepted.{refuses-incomplete, refuses-early}
 use borrow.Author.Needs.{needs}
 use Rattle.order_check.proofs.accepting.check_order.Statement.{statement}
@@ -19,6 +20,13 @@ use Rattle.order_check.proofs.accepting.check_order.Tie as tie
 
 size : (s : tie.Start) → length (eventsOf (s .args .t)) ≡ s .args .t .len
 size s = let n : length (s .args .t .events) ≡ 256 = search (needs, length-mapped, s .good .0) in length-events (s .args .t) (omega (arith, s .pre .0))
+
+-- the order that is searched is complete
+first-early-requires : tie.Need-first-early-requires
+first-early-requires c κs =
+    let s = c .before .before .before in
+    let order = complete-iff (s .args .t .len) (now (s .args .order)) .0 (sym (c .before .is-complete .ensures) ∙ not-false _ (c .if1 .left)) in
+    (record { size = refl; full = λ i l. order .full i (omega (arith, order .size)) }, omega (arith, order .size, s .pre .0))
 
 -- a complete order: refused where the search finds a place
 searched : (f : tie.After-first-early) → refuseAt (asPosition (f .first-early .result)) Refusal.EventTooEarly ≡ checkOrder (eventsOf (f .before .before .before .before .args .t)) (now (f .before .before .before .before .args .order))
@@ -43,6 +51,7 @@ pub check-order-spec : {M : Type 1} → statement M
 check-order-spec =
     tie.close
     (tie.spec (λ c κs. search needs)
-    returns (λ c κs. search needs) (λ c. search needs) (λ c. search needs)
+    returns
+    first-early-requires (λ c. search needs) (λ c. search needs)
     returns-2
     returns-3)

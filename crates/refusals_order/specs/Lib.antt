@@ -1,0 +1,7 @@
+pub mod Types
+pub mod Causes
+pub mod Texts
+pub mod Traces
+pub mod Tables
+pub mod Orders
+pub mod Calls

@@ -1,21 +1,25 @@
 -- Reading a trace tells the first of the refusals 1 to 8 that applies (`trace-refused-iff`), and accepts the text exactly if none does
--- (`trace-accepted-none`). Assumes nothing.
+-- (`trace-accepted-none`). By themselves: the lines (`line-refused-iff`) and the tokens (`twice-refused-iff`, `early-refused-iff`).
+-- Assumes nothing.
 use mathlib.Core.Path.{_≡_, refl, sym, ap, _∙_, subst}
 use mathlib.Core.Bool.{Bool, true, false, not, cond}
-use mathlib.Core.Logic.{_↔_, inl, inr}
+use mathlib.Core.Logic.{_↔_, inl, inr, ⊎-elim}
 use mathlib.Core.List.{List, [], _∷_, _++_}
 use mathlib.Core.Option.{Option, none, some}
-use Prim.Native.Nat.{ℕ}
+use Prim.Native.Nat.{ℕ, _≤_, _<_}
 use native.Mathlib.Omega.{arith}
 use lib.Dec.{eqb}
 use lib.ListN.{length}
 use borrow.Author.Tests.{eqb-false, ne-eqb, not-true}
-use Rattle.basics.specs.Searches.{lowest}
+use Rattle.basics.specs.Searches.{lowest, Lowest}
+use Rattle.basics.proofs.Searches.{lowest-none}
 use Rattle.text_lines.specs.Lines.{lines}
-use Rattle.text_lines.specs.Limits.{limitOf}
+use Rattle.text_lines.specs.Limits.{limitOf, Within}
+use Rattle.text_lines.proofs.LimitLaws.{within-limit}
 use Rattle.text_reader.specs.Each.{readEach}
 use Rattle.refusals.specs.Checks.{Checked, _▹_, refuseIf, refuseAt, refuseNone, refuseLimit}
-use Rattle.refusals.proofs.Checks.{same-value}
+use Rattle.refusals.specs.Refusals.{numberOf}
+use Rattle.refusals.proofs.Checks.{same-value, refused-by}
 use Rattle.trace_line.specs.EventLine.{readNumberedEvent, clearEvent, onLine, readEvent}
 use Rattle.trace_line.proofs.LineFormat.{line-format}
 use Rattle.trace_text.specs.TraceText.{twice, takenEarly, readTrace}
@@ -23,10 +27,10 @@ use Rattle.trace_text.specs.Meaning.{TwiceAt, TakenEarlyAt}
 use Rattle.trace_text.proofs.TokenMeaning.{twice-iff, taken-early-iff}
 use Rattle.trace_text.proofs.Accepted.{events-read, lines-read, lines-length}
 use Rattle.refusals_order.specs.Types.{Refusal, Event}
-use Rattle.refusals_order.specs.Causes.{Cause, FirstOf, NoneOf, When, Of, lineByLine}
+use Rattle.refusals_order.specs.Causes.{Cause, FirstOf, NoneOf, When, Of, lineByLine, LowestLine}
 use Rattle.refusals_order.specs.Texts.{limitCauses}
 use Rattle.refusals_order.specs.Traces.{IsLine, LineMalformed, Misnumbered, LineBit, lineCauses, LinesOf, twiceCause, earlyCause, traceCauses}
-use Rattle.refusals_order.proofs.Causes.{Tells, handed-none, tells-same, then-tells, none-tells, some-handed, when-tells, lowest-tells, never-tells, of-said, each-tells}
+use Rattle.refusals_order.proofs.Causes.{Tells, handed-none, tells-same, then-tells, none-tells, some-handed, when-tells, lowest-iff, lowest-tells, never-tells, of-said, each-tells, lowest-line-iff}
 use Rattle.refusals_order.proofs.Texts.{limit-tells, bit-operation}
 
 -- ---- a line: 4, 5, 6
@@ -149,3 +153,70 @@ trace-refused-iff = trace-tells
 -- a trace is accepted exactly if none applies
 pub trace-accepted-none : (s : List ℕ) → ((es : List Event) × (readTrace s ≡ inr es)) ↔ NoneOf (traceCauses s)
 trace-accepted-none s = handed-none (readTrace s) (traceCauses s) (trace-tells s)
+
+-- ---- the lines and the tokens by themselves
+-- the number of a line's refusal is 4, 5 or 6
+line-number : (k : ℕ) (l : List ℕ) (r : Refusal) → FirstOf (lineCauses k l) r → numberOf r ≤ 6
+line-number k l r f =
+    ⊎-elim (λ (p, e). omega (arith, ap numberOf e))
+    (λ (n, g). ⊎-elim (λ (p, e). omega (arith, ap numberOf e))
+    (λ (m, h). ⊎-elim (λ (p, e). omega (arith, ap numberOf e)) (λ (u, v). absurd v) h) g) f
+
+token-number : (es : List Event) (r : Refusal) → FirstOf (twiceCause es ∷ earlyCause es ∷ []) r → 7 ≤ numberOf r
+token-number es r f =
+    ⊎-elim (λ (j, p, e). omega (arith, ap numberOf e))
+    (λ (n, g). ⊎-elim (λ (j, p, e). omega (arith, ap numberOf e)) (λ (u, v). absurd v) g) f
+
+module _ (s : List ℕ) (w : Within s) where
+  abbrev tokensOf : List Event → Checked (List Event)
+  tokensOf es = refuseAt (lowest (twice es) (length es)) Refusal.TokenTwice ▹ λ _. refuseAt (lowest (takenEarly es) (length es)) Refusal.TokenTooEarly ▹ λ _. inr es
+
+  lines-then : readTrace s ≡ (readEach readEvent 0 (lines s) ▹ tokensOf)
+  unfolding readTrace
+  lines-then = rw (within-limit s w) refl
+
+  -- 4, 5, 6: a text within the limits is refused by a line exactly if that is the lowest line that fails one of the three checks, and by the
+  -- first of them that it fails
+  pub line-refused-iff : (r : Refusal) → ((readTrace s ≡ inl r) × (numberOf r ≤ 6)) ↔ LowestLine lineCauses (lines s) r
+  line-refused-iff r = (
+    λ (e, n). refused-by (readEach readEvent 0 (lines s)) tokensOf (sym lines-then ∙ e)
+        (λ f. lowest-line-iff lineCauses (lines s) r .0 (each-tells readEvent lineCauses line-tells 0 (lines s) r .0 f))
+        (λ es f g. absurd (omega (arith, token-number es r (tokens-tell es r .0 g)))),
+    λ m. (
+      lines-then ∙ ap (λ x. x ▹ tokensOf) (each-tells readEvent lineCauses line-tells 0 (lines s) r .1 (lowest-line-iff lineCauses (lines s) r .1 m)),
+      line-number (m .line) (m .text) r (m .first),
+    ),
+  )
+
+  module _ (es : List Event) (l : LinesOf s es) where
+    then-tokens : readTrace s ≡ tokensOf es
+    then-tokens =
+        let n : length es ≤ 256 = omega (arith, w .few, ap length (l .0), lines-length 0 es) in
+        lines-then ∙ ap (λ x. x ▹ tokensOf) (ap (readEach readEvent 0) (l .0) ∙ lines-read es 0 (l .1) (omega arith))
+
+    -- 7: where no line is refused, line j is exactly if it is the lowest with a token twice
+    pub twice-refused-iff : (j : ℕ) → (readTrace s ≡ inl (Refusal.TokenTwice j)) ↔ Lowest (TwiceAt es) (length es) j
+    twice-refused-iff j = (
+      λ e. ⊎-elim
+          (λ (k, m, q). let h : k ≡ j = cc in rw h at m)
+          (λ (n, g). ⊎-elim (λ (k, m, q). absurd (omega (arith, ap numberOf q))) (λ (u, v). absurd v) g)
+          (tokens-tell es (Refusal.TokenTwice j) .0 (sym then-tokens ∙ e)),
+      λ m. then-tokens ∙ tokens-tell es (Refusal.TokenTwice j) .1 (inl (j, m, refl)),
+    )
+
+    -- 8: and where no token stands twice, line i is exactly if it is the lowest that takes one in too early
+    pub early-refused-iff : (i : ℕ) → (readTrace s ≡ inl (Refusal.TokenTooEarly i)) ↔ (((j : ℕ) → j < length es → TwiceAt es j → ⊥) × Lowest (TakenEarlyAt es) (length es) i)
+    early-refused-iff i = (
+      λ e. ⊎-elim
+          (λ (k, m, q). absurd (omega (arith, ap numberOf q)))
+          (λ (n, g). ⊎-elim (λ (k, m, q). let h : k ≡ i = cc in (none-twice n, rw h at m)) (λ (u, v). absurd v) g)
+          (tokens-tell es (Refusal.TokenTooEarly i) .0 (sym then-tokens ∙ e)),
+      λ (n, m). then-tokens ∙ tokens-tell es (Refusal.TokenTooEarly i) .1 (inr (λ q (k, h, e). n k (h .inside) (h .here), inl (i, m, refl))),
+    )
+      where
+        none-twice : ((q : Refusal) → twiceCause es q → ⊥) → (j : ℕ) → j < length es → TwiceAt es j → ⊥
+        none-twice n = lowest-none (TwiceAt es) (twice es) (twice-iff es) (length es) (go (lowest (twice es) (length es)) refl)
+          where
+            go : (x : Option ℕ) → lowest (twice es) (length es) ≡ x → lowest (twice es) (length es) ≡ none
+            go none e = e
+            go (some k) e = absurd (n (Refusal.TokenTwice k) (k, lowest-iff (TwiceAt es) (twice es) (twice-iff es) (length es) k .0 e, refl))

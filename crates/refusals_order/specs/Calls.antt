@@ -4,12 +4,17 @@ use Prim.Native.Nat.{ℕ, _<_}
 use lib.ListN.{length}
 use Rattle.trace_text.specs.Meaning.{IsTrace}
 use Rattle.tables_text.specs.Meaning.{IsTables}
-use Rattle.tables_normal.specs.Normal.{normalText}
+use Rattle.rows.specs.Rows.{tablesOf}
+use Rattle.tables_normal.specs.Normal.{normalText, tablesText}
 use Rattle.list_pairs.specs.List.{listOf, pairBytes}
-use Rattle.refusals_order.specs.Types.{Refusal}
+use Rattle.order_meaning.specs.Tables.{endTables}
+use Rattle.order_rows.specs.Runs.{operationAt}
+use Rattle.replay_call.specs.Replay.{entriesHeld, answerLines}
+use Rattle.refusals_order.specs.Types.{Refusal, Event, Row}
 use Rattle.refusals_order.specs.Causes.{Cause, When, Of}
 use Rattle.refusals_order.specs.Traces.{traceCauses}
 use Rattle.refusals_order.specs.Tables.{tablesCauses}
+use Rattle.refusals_order.specs.Orders.{incompleteCause, earlyPutCause}
 
 -- 31, 32, 33: a buffer is too short for a text; the bytes needed
 abbrev pub shortCause : ℕ → (ℕ → Refusal) → List ℕ → Cause
@@ -22,3 +27,32 @@ listCauses trace room = traceCauses trace ++ (Of (IsTrace trace) (λ es. shortCa
 -- the normaliser: 11 to 16; 32
 unfoldable pub normalCauses : List ℕ → ℕ → List Cause
 normalCauses tables room = tablesCauses tables ++ (Of (IsTables tables) (λ rs. shortCause room Refusal.TablesShort (normalText rs)) ∷ [])
+
+-- ---- replay
+-- a cause that speaks of what both texts say
+abbrev pub OfBoth : List ℕ → List ℕ → (List Event → List Row → Cause) → Cause
+OfBoth trace tables c = Of (IsTrace trace) (λ es. Of (IsTables tables) (λ rs. c es rs))
+
+-- 41: over 512 entries held
+abbrev pub heldCause : List ℕ → List Event → List Row → Cause
+heldCause o es rs = When (512 < entriesHeld (endTables (operationAt es) o (tablesOf rs))) Refusal.TooManyEntries
+
+-- 32: the normal text of the end tables
+abbrev pub endShortCause : List ℕ → ℕ → List Event → List Row → Cause
+endShortCause o room es rs = shortCause room Refusal.TablesShort (tablesText (endTables (operationAt es) o (tablesOf rs)))
+
+-- 33: the answer lines
+abbrev pub answersShortCause : List ℕ → ℕ → List Event → List Row → Cause
+answersShortCause o room es rs = shortCause room Refusal.AnswersShort (answerLines es o (tablesOf rs))
+
+-- 1 to 8; 11 to 16; 21, 22; 41; 32; 33
+unfoldable pub replayCauses : List ℕ → List ℕ → List ℕ → ℕ → ℕ → List Cause
+replayCauses trace tables o room room' =
+    traceCauses trace
+    ++ (tablesCauses tables
+    ++ (Of (IsTrace trace) (incompleteCause o)
+    ∷ Of (IsTrace trace) (earlyPutCause o)
+    ∷ OfBoth trace tables (heldCause o)
+    ∷ OfBoth trace tables (endShortCause o room)
+    ∷ OfBoth trace tables (answersShortCause o room')
+    ∷ []))

@@ -1,9 +1,9 @@
 -- Document 01, "Refusal table", 11 to 16: when each refusal of a table text applies.
-use mathlib.Core.List.{List, [], _∷_, _++_}
+use mathlib.Core.List.{List, [], _∷_, _++_, map, List·Memᴰ}
 use mathlib.Core.Path.{_≡_}
 use Prim.Native.Nat.{ℕ}
 use Rattle.text_lines.specs.Lines.{lines}
-use Rattle.tables_text.specs.TableText.{printRow, RowWritten, LowestOn}
+use Rattle.tables_text.specs.TableText.{printRow, RowWritten, RowInRange, LowestOn}
 use Rattle.refusals_order.specs.Types.{Refusal, Row}
 use Rattle.refusals_order.specs.Causes.{Cause, When, lineByLine}
 use Rattle.refusals_order.specs.Texts.{limitCauses, BitInMatch}
@@ -27,7 +27,12 @@ rowCauses k l =
     ∷ When (RowBit l) (Refusal.TablesAddressBit k)
     ∷ []
 
--- ---- 16: the lowest line whose switch and key stand on an earlier one
+-- ---- the keys
+-- the lines are those of the rows, none of which is refused
+abbrev pub RowLinesOf : List ℕ → List Row → Type 0
+RowLinesOf s rs = (lines s ≡ map printRow rs) × ((x : Row) → List·Memᴰ x rs → RowInRange x)
+
+-- 16: the lowest line whose switch and key stand on an earlier one
 abbrev pub keyCause : List ℕ → Cause
 keyCause s r = (k : ℕ) × LowestOn s k × (r ≡ Refusal.KeyTwice k)
 

@@ -1,15 +1,15 @@
 -- Which table texts are accepted, and as which rows: exactly those that `IsTables` describes. Assumes nothing.
-use Prim.Native.Nat.{ℕ, _+_, _≤_}
+use Prim.Native.Nat.{ℕ, _+_}
 use mathlib.Core.Bool.{true, false, true≢false}
 use mathlib.Core.List.{List, [], _∷_, map}
 use mathlib.Core.Logic.{_↔_, inr}
 use mathlib.Core.Path.{_≡_, refl, ap, _∙_}
 use native.Mathlib.Omega.{arith}
-use lib.ListN.{length, length-map}
+use lib.ListN.{length-map}
 use Rattle.basics.proofs.Booleans.{split}
 use Rattle.text_lines.specs.Lines.{lines}
 use Rattle.rows_sort.specs.Sorting.{standsEarlier}
-use Rattle.rows_sort.proofs.SortLaws.{InOrder, sort-rows, rows-sort, stands-iff}
+use Rattle.rows_sort.proofs.SortLaws.{sort-rows, rows-sort, stands-iff}
 use Rattle.tables_text.specs.Types.{Row}
 use Rattle.tables_text.specs.TableText.{printRow, readTables}
 use Rattle.tables_text.specs.Meaning.{IsTables}

@@ -9,7 +9,7 @@ use native.Mathlib.Omega.{arith}
 use lib.ListN.{length, getElem?}
 use Rattle.basics.proofs.Searches.{lowest-nowhere, lowest-at}
 use Rattle.text_numbers.proofs.Readers.{nothing, on-cond}
-use Rattle.text_reader.proofs.Each.{refuses, accepts}
+use Rattle.text_reader.proofs.Each.{refuses}
 use Rattle.rows.specs.Rows.{insertRow, anyRow, sameSlot}
 use Rattle.rows_sort.specs.Sorting.{sortFrom, sortRows}
 use Rattle.rows_sort.proofs.SortLaws.{sort-line, sort-rows, stands-iff}

@@ -2,7 +2,7 @@
 -- twice or is taken in too early. Assumes nothing.
 use Prim.Native.Nat.{ℕ, _<_, _≤_}
 use native.Mathlib.Omega.{arith}
-use mathlib.Core.Path.{_≡_, refl, ap}
+use mathlib.Core.Path.{_≡_, refl}
 use mathlib.Core.List.{List}
 use mathlib.Core.Logic.{inl, inr}
 use mathlib.Core.Option.{Option, none, some}
@@ -86,33 +86,9 @@ module _ (es : List Event) where
       (lowest-none (TwiceAt es) (twice es) (twice-iff es) (length es) (nothing-found twices _ p)))
       (λ _ q v. not-refused v))
 
-  tokens-twice : (j : ℕ) → checkTokens es ≡ inl (Refusal.TokenTwice j) → Lowest (TwiceAt es) (length es) j
-  tokens-twice j h =
-      tokens-refused (Refusal.TokenTwice j) h
-      (λ k e l. let same : k ≡ j = cc in rw same at l)
-      (λ i e l n. absurd (omega (arith, ap numberOf e)))
-
-  tokens-early : (i : ℕ) → checkTokens es ≡ inl (Refusal.TokenTooEarly i) → Lowest (TakenEarlyAt es) (length es) i × NoneTwice
-  tokens-early i h =
-      tokens-refused (Refusal.TokenTooEarly i) h
-      (λ j e l. absurd (omega (arith, ap numberOf e)))
-      (λ k e l n. let same : k ≡ i = cc in (rw same at l, n))
-
   -- the place is a line of the trace
   tokens-place : (r : Refusal) → checkTokens es ≡ inl r → placeOf r < length es
   tokens-place r h = tokens-refused r h (λ j e l. rw e (l .inside)) (λ i e l n. rw e (l .inside))
-
--- 7 and 8 give the lowest line of which they speak; 8 only where no token stands twice
-pub token-twice-line : (s : List ℕ) (j : ℕ) → readTrace s ≡ inl (Refusal.TokenTwice j)
-    → (es : List Event) × (readEach readEvent 0 (lines s) ≡ inr es) × Lowest (TwiceAt es) (length es) j
-token-twice-line s j h =
-    refused-for s (Refusal.TokenTwice j) h (λ n p q. absurd (omega arith)) (λ w n p. absurd (omega arith)) (λ w es e u. (es, e, tokens-twice es j u))
-
-pub token-early-line : (s : List ℕ) (i : ℕ) → readTrace s ≡ inl (Refusal.TokenTooEarly i)
-    → (es : List Event) × (readEach readEvent 0 (lines s) ≡ inr es) × Lowest (TakenEarlyAt es) (length es) i
-    × ((j : ℕ) → j < length es → TwiceAt es j → ⊥)
-token-early-line s i h =
-    refused-for s (Refusal.TokenTooEarly i) h (λ n p q. absurd (omega arith)) (λ w n p. absurd (omega arith)) (λ w es e u. let t = tokens-early es i u in (es, e, t .0, t .1))
 
 -- there are at most 256 lines
 pub refused-place : (s : List ℕ) (r : Refusal) → readTrace s ≡ inl r → placeOf r ≤ 256

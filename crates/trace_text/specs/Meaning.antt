@@ -1,5 +1,5 @@
 -- Document 01, "Refusal table" 7 and 8, in its words: what the two checks of the tokens look for. (`twice-iff` and `taken-early-iff`,
--- proofs/TokenMeaning.antt, `token-twice-line` and `token-early-line`, proofs/Refused.antt, say that they find just this.)
+-- proofs/TokenMeaning.antt, say that they find just this.)
 use mathlib.Core.Path.{_≡_}
 use mathlib.Core.Bool.{true}
 use mathlib.Core.List.{List, [], _∷_}

@@ -17,7 +17,7 @@ use Rattle.flow.specs.Matches.{fits, overlaps, within, MatchInRange}
 use Rattle.flow.specs.Entries.{sameKey, KeyInRange, EntryInRange}
 use Rattle.flow_table.specs.Types.{Match, Packet, Action, Key, Entry, Answer, Effect}
 use Rattle.flow_table.specs.FlowTable.{Table, entry, Sorted, TableInRange, get, insert, removeIf, assignIf, anyOf, inside, clash, admits, fitting, highest, atPriority, firstAt, best, after, answer, EffectInRange}
-use Rattle.flow_table.specs.Meanings.{Fits, FitsAt, Clashes, Within, Some, None, First, Count, Hits, Meets, Checks, Answers, Set, Modified, Leaves, Different}
+use Rattle.flow_table.specs.Meanings.{Fits, FitsAt, Clashes, EntryWithin, Some, None, First, Count, Hits, Meets, Checks, Answers, Set, Modified, StandsAfter, Different}
 use Rattle.flow_table.proofs.TableLaws.{get-insert, get-mem, mem-get, sorted-insert, none-some}
 
 -- ---- what stands in a table
@@ -148,7 +148,7 @@ module _ (t : Table) (r : TableInRange t) where
         λ c. and-intro (eq-eqb (k .priority) (e .key .priority) (sym (c .0))) (iff .1 (c .1)),
       )
 
-  inside-iff : (m : Match) → MatchInRange m → (e : Entry) → List·Memᴰ e t → (inside m (e .key) ≡ true) ↔ Within m e
+  inside-iff : (m : Match) → MatchInRange m → (e : Entry) → List·Memᴰ e t → (inside m (e .key) ≡ true) ↔ EntryWithin m e
   inside-iff m h e n = within-iff (e .key .pattern) m (entry-range t r e n .key .pattern) h
 
 -- ---- what each event leaves
@@ -158,7 +158,7 @@ by-test : {S N X Y : Type 0} (b : Bool) (t u : Table) (e : Entry) → (b ≡ tru
 by-test true t u e s n i j = (λ m. inl (s .0 refl, i .0 m), ⊎-elim (λ c. i .1 (c .1)) (λ c. absurd (true≢false (n .1 (c .0)))))
 by-test false t u e s n i j = (λ m. inr (n .0 refl, j .0 m), ⊎-elim (λ c. absurd (false≢true (s .1 (c .0)))) (λ c. j .1 (c .1)))
 
-pub after-iff : (v : Effect) (t : Table) → EffectInRange v → TableInRange t → Sorted t → (e : Entry) → List·Memᴰ e (after v t) ↔ Leaves v t e
+pub after-iff : (v : Effect) (t : Table) → EffectInRange v → TableInRange t → Sorted t → (e : Entry) → List·Memᴰ e (after v t) ↔ StandsAfter v t e
 unfolding after
 after-iff (Effect.Pkt p) t h r s e = (λ m. m, λ m. m)
 after-iff (Effect.Add k a) t h r s e = insert-in k a t s e
@@ -168,10 +168,10 @@ after-iff (Effect.Addc k a) t h r s e =
 after-iff (Effect.Modn k a) t h r s e =
     let m = k .pattern in
     let c = inside-iff t r m (h .0 .pattern) in
-    by-test (anyOf (inside m) t) (assignIf (inside m) a t) (insert k a t) e (some-iff (Within m) (inside m) t c) (none-iff (Within m) (inside m) t c)
-    (assigned-iff (Within m) (inside m) t c a e) (insert-in k a t s e)
+    by-test (anyOf (inside m) t) (assignIf (inside m) a t) (insert k a t) e (some-iff (EntryWithin m) (inside m) t c) (none-iff (EntryWithin m) (inside m) t c)
+    (assigned-iff (EntryWithin m) (inside m) t c a e) (insert-in k a t s e)
 after-iff (Effect.Dels k) t h r s e = removed-iff (λ d. d .key ≡ k) (sameKey k) t (key-iff t r k) e
-after-iff (Effect.Deln m) t h r s e = removed-iff (Within m) (inside m) t (inside-iff t r m h) e
+after-iff (Effect.Deln m) t h r s e = removed-iff (EntryWithin m) (inside m) t (inside-iff t r m h) e
 after-iff Effect.Idle t h r s e = (λ m. m, λ m. m)
 
 -- ---- the first entry with a property, and how many have it

@@ -20,8 +20,8 @@ FitsAt p n e = Fits p e × (e .key .priority ≡ n)
 abbrev pub Clashes : Key → Entry → Type 0
 Clashes k e = (e .key .priority ≡ k .priority) × Overlap (k .pattern) (e .key .pattern)
 
-abbrev pub Within : Match → Entry → Type 0
-Within m e = LiesWithin (e .key .pattern) m
+abbrev pub EntryWithin : Match → Entry → Type 0
+EntryWithin m e = LiesWithin (e .key .pattern) m
 
 -- ---- what a table has of a property
 -- some entry, no entry
@@ -84,17 +84,17 @@ Set k a t e = (e ≡ entry k a) ⊎ (List·Memᴰ e t × (e .key ≡ k → ⊥))
 
 -- `modn`, where an entry lies within the match: e is an entry within it with its new action, or one that does not lie within it
 abbrev pub Modified : Match → Action → Table → Entry → Type 0
-Modified m a t e = Some (λ d. Within m d × (e ≡ entry (d .key) a)) t ⊎ (List·Memᴰ e t × (Within m e → ⊥))
+Modified m a t e = Some (λ d. EntryWithin m d × (e ≡ entry (d .key) a)) t ⊎ (List·Memᴰ e t × (EntryWithin m e → ⊥))
 
 -- the entry e is in the table after the event
-abbrev pub Leaves : Effect → Table → Entry → Type 0
-Leaves (Effect.Pkt p) t e = List·Memᴰ e t
-Leaves (Effect.Add k a) t e = Set k a t e
-Leaves (Effect.Addc k a) t e = (Some (Clashes k) t × List·Memᴰ e t) ⊎ (None (Clashes k) t × Set k a t e)
-Leaves (Effect.Modn k a) t e = (Some (Within (k .pattern)) t × Modified (k .pattern) a t e) ⊎ (None (Within (k .pattern)) t × Set k a t e)
-Leaves (Effect.Dels k) t e = List·Memᴰ e t × (e .key ≡ k → ⊥)
-Leaves (Effect.Deln m) t e = List·Memᴰ e t × (Within m e → ⊥)
-Leaves Effect.Idle t e = List·Memᴰ e t
+abbrev pub StandsAfter : Effect → Table → Entry → Type 0
+StandsAfter (Effect.Pkt p) t e = List·Memᴰ e t
+StandsAfter (Effect.Add k a) t e = Set k a t e
+StandsAfter (Effect.Addc k a) t e = (Some (Clashes k) t × List·Memᴰ e t) ⊎ (None (Clashes k) t × Set k a t e)
+StandsAfter (Effect.Modn k a) t e = (Some (EntryWithin (k .pattern)) t × Modified (k .pattern) a t e) ⊎ (None (EntryWithin (k .pattern)) t × Set k a t e)
+StandsAfter (Effect.Dels k) t e = List·Memᴰ e t × (e .key ≡ k → ⊥)
+StandsAfter (Effect.Deln m) t e = List·Memᴰ e t × (EntryWithin m e → ⊥)
+StandsAfter Effect.Idle t e = List·Memᴰ e t
 
 -- ---- a list of entries with pairwise different keys
 abbrev pub Different : Table → Type 0

@@ -63,7 +63,7 @@ normal-refused-iff tables room = then-short (readTables tables) (IsTables tables
 module _ (trace tables o : List ℕ) (room room' : ℕ) where
   module _ (es : List Event) (rs : List Row) where
     -- what follows the two texts, on what they say
-    abbrev follows : Checked Replayed
+    abbrev pub follows : Checked Replayed
     follows =
         checkOrder es o ▹ λ _.
         refuseIf (ltb 512 (entriesHeld (endTables (operationAt es) o (tablesOf rs)))) Refusal.TooManyEntries ▹ λ _.

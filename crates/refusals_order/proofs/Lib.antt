@@ -4,3 +4,4 @@ pub mod Traces
 pub mod Tables
 pub mod Orders
 pub mod Calls
+pub mod Demand1

@@ -5,3 +5,4 @@ pub mod Traces
 pub mod Tables
 pub mod Orders
 pub mod Calls
+pub mod Demand1

@@ -6,3 +6,6 @@ pub use Rattle.flow_table.specs.declared.operation.Operation.{Operation}
 pub use Rattle.flow_table.specs.declared.carried.Carried.{Carried}
 pub use Rattle.trace_events.specs.declared.event.Event.{Event}
 pub use Rattle.rows.specs.declared.row.Row.{Row}
+pub use Rattle.call_answers.specs.declared.list.ListAnswer.{ListAnswer}
+pub use Rattle.call_answers.specs.declared.normal.NormalAnswer.{NormalAnswer}
+pub use Rattle.call_answers.specs.declared.replay.ReplayAnswer.{ReplayAnswer}

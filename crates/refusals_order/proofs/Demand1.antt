@@ -1,0 +1,149 @@
+-- Demand 1, whole (`demand-1`): each call refuses by the first cause that applies and leaves its buffers as they were, or else returns
+-- and writes the result. Assumes nothing.
+use mathlib.Core.Path.{_≡_, refl, sym, ap, _∙_}
+use mathlib.Core.List.{List}
+use mathlib.Core.Logic.{_⊎_, inl, inr}
+use Prim.Native.Nat.{ℕ}
+use lib.Dec.{ltb}
+use lib.ListN.{length}
+use Rattle.basics.specs.Text.{startingWith}
+use Rattle.refusals.specs.Checks.{Checked, _▹_, refuseIf, refuseShort, written}
+use Rattle.refusals.proofs.Checks.{same-value, handed-on}
+use Rattle.trace_text.specs.TraceText.{readTrace}
+use Rattle.trace_text.proofs.Accepted.{trace-accepted-iff}
+use Rattle.tables_text.specs.TableText.{readTables}
+use Rattle.tables_text.proofs.Meaning.{tables-accepted-iff}
+use Rattle.tables_normal.specs.Normal.{normalText, normalised, normalAnswer}
+use Rattle.list_pairs.specs.List.{Listing, listOf, pairBytes, countsOf, listingOf}
+use Rattle.list_call.specs.Races.{listRaces, listAnswer, listOut}
+use Rattle.replay_texts.specs.Writing.{Replayed, replayAnswer, tablesOut, answersOut}
+use Rattle.order_meaning.specs.Tables.{endTables}
+use Rattle.rows.specs.Rows.{tablesOf}
+use Rattle.order_check.specs.Schedule.{checkOrder}
+use Rattle.order_rows.specs.Runs.{operationAt}
+use Rattle.replay_call.specs.Replay.{entriesHeld, textsOf, replayed}
+use Rattle.refusals_order.specs.Types.{Refusal, Event, Row, ListAnswer}
+use Rattle.refusals_order.specs.Calls.{listCauses, normalCauses, replayCauses}
+use Rattle.refusals_order.specs.Demand1.{ListRefused, ListDone, NormalRefused, NormalDone, ReplayRefused, ReplayDone, Demand1}
+use Rattle.refusals_order.proofs.Causes.{handed-none}
+use Rattle.refusals_order.proofs.Calls.{follows, list-refused-iff, normal-refused-iff, replay-refused-iff}
+
+-- ---- what an accepted input hands on
+module _ {A B : Type 0} (x : Checked A) (room : ℕ) (text : A → List ℕ) (refusal : ℕ → Refusal) (value : A → B) {b : B} where
+  fits-on : (x ▹ λ a. refuseShort room (text a) refusal ▹ λ _. inr (value a)) ≡ inr b → (a : A) × (x ≡ inr a) × (value a ≡ b)
+  fits-on h =
+      let (a, e, f) = handed-on x (λ a. refuseShort room (text a) refusal ▹ λ _. inr (value a)) h in
+      (a, e, same-value (handed-on (refuseShort room (text a) refusal) (λ _. inr (value a)) f .2))
+
+listed-on : (trace : List ℕ) (room : ℕ) (l : Listing) → listRaces trace room ≡ inr l → (es : List Event) × (readTrace trace ≡ inr es) × (listingOf es ≡ l)
+unfolding listRaces
+listed-on trace room l h = fits-on (readTrace trace) room (λ es. pairBytes (listOf es)) Refusal.ListShort listingOf h
+
+normal-on : (tables : List ℕ) (room : ℕ) (t : List ℕ) → normalised tables room ≡ inr t → (rs : List Row) × (readTables tables ≡ inr rs) × (normalText rs ≡ t)
+unfolding normalised
+normal-on tables room t h = fits-on (readTables tables) room normalText Refusal.TablesShort normalText h
+
+module _ (trace tables o : List ℕ) (room room' : ℕ) (x : Replayed) where
+  follows-on : (es : List Event) (rs : List Row) → follows trace tables o room room' es rs ≡ inr x → textsOf es o (tablesOf rs) ≡ x
+  follows-on es rs h =
+      let texts = textsOf es o (tablesOf rs) in
+      let n = entriesHeld (endTables (operationAt es) o (tablesOf rs)) in
+      let answers33 : Unit {0} → Checked Replayed = λ _. inr texts in
+      let tables32 : Unit {0} → Checked Replayed = λ _. refuseShort room' (texts .answers) Refusal.AnswersShort ▹ answers33 in
+      let held41 : Unit {0} → Checked Replayed = λ _. refuseShort room (texts .tables) Refusal.TablesShort ▹ tables32 in
+      let ordered = handed-on (checkOrder es o) (λ _. refuseIf (ltb 512 n) Refusal.TooManyEntries ▹ held41) h in
+      let few = handed-on (refuseIf (ltb 512 n) Refusal.TooManyEntries) held41 (ordered .2) in
+      let ends = handed-on (refuseShort room (texts .tables) Refusal.TablesShort) tables32 (few .2) in
+      same-value (handed-on (refuseShort room' (texts .answers) Refusal.AnswersShort) answers33 (ends .2) .2)
+
+  replayed-on : replayed trace tables o room room' ≡ inr x
+      → (es : List Event) × (readTrace trace ≡ inr es) × ((rs : List Row) × (readTables tables ≡ inr rs) × (textsOf es o (tablesOf rs) ≡ x))
+  unfolding replayed
+  replayed-on h =
+      let (es, e, f) = handed-on (readTrace trace) (λ es. readTables tables ▹ λ rs. follows trace tables o room room' es rs) h in
+      let (rs, k, g) = handed-on (readTables tables) (λ rs. follows trace tables o room room' es rs) f in
+      (es, e, (rs, k, follows-on es rs g))
+
+-- ---- the calls
+module _ (trace : List ℕ) (room : ℕ) (es : List Event) (g : listRaces trace room ≡ inr (listingOf es)) where
+  counts-of : listAnswer (listRaces trace room) ≡ ListAnswer.Counts (countsOf es)
+  unfolding listingOf
+  counts-of = ap listAnswer g
+
+  bytes-of : (old : List ℕ) → written (listOut (listRaces trace room)) old ≡ startingWith (pairBytes (listOf es)) old
+  unfolding listingOf
+  bytes-of old = ap (λ y. written (listOut y) old) g
+
+list-does : (trace old : List ℕ) → ListRefused trace old ⊎ ListDone trace old
+list-does trace old = go (listRaces trace (length old)) refl
+  where
+    go : (y : Checked Listing) → listRaces trace (length old) ≡ y → ListRefused trace old ⊎ ListDone trace old
+    go (inl r) e = inl (record {
+      refusal = r;
+      first = list-refused-iff trace (length old) r .0 e;
+      returned = ap listAnswer e;
+      unchanged = ap (λ y. written (listOut y) old) e;
+    })
+    go (inr l) e =
+        let (es, h, f) = listed-on trace (length old) l e in
+        let g : listRaces trace (length old) ≡ inr (listingOf es) = e ∙ ap inr (sym f) in
+        inr (record {
+          none = handed-none (listRaces trace (length old)) (listCauses trace (length old)) (list-refused-iff trace (length old)) .0 (l, e);
+          events = es;
+          accepted = trace-accepted-iff trace es .0 h;
+          returned = counts-of trace (length old) es g;
+          bytes = bytes-of trace (length old) es g old;
+        })
+
+normal-does : (tables old : List ℕ) → NormalRefused tables old ⊎ NormalDone tables old
+normal-does tables old = go (normalised tables (length old)) refl
+  where
+    go : (y : Checked (List ℕ)) → normalised tables (length old) ≡ y → NormalRefused tables old ⊎ NormalDone tables old
+    go (inl r) e = inl (record {
+      refusal = r;
+      first = normal-refused-iff tables (length old) r .0 e;
+      returned = ap normalAnswer e;
+      unchanged = ap (λ y. written y old) e;
+    })
+    go (inr t) e =
+        let (rs, h, f) = normal-on tables (length old) t e in
+        let g : normalised tables (length old) ≡ inr (normalText rs) = e ∙ ap inr (sym f) in
+        inr (record {
+          none = handed-none (normalised tables (length old)) (normalCauses tables (length old)) (normal-refused-iff tables (length old)) .0 (t, e);
+          rows = rs;
+          accepted = tables-accepted-iff tables rs .0 h;
+          returned = ap normalAnswer g;
+          bytes = ap (λ y. written y old) g;
+        })
+
+replay-does : (trace tables o old old' : List ℕ) → ReplayRefused trace tables o old old' ⊎ ReplayDone trace tables o old old'
+replay-does trace tables o old old' = go (replayed trace tables o (length old) (length old')) refl
+  where
+    go : (y : Checked Replayed) → replayed trace tables o (length old) (length old') ≡ y → ReplayRefused trace tables o old old' ⊎ ReplayDone trace tables o old old'
+    go (inl r) e = inl (record {
+      refusal = r;
+      first = replay-refused-iff trace tables o (length old) (length old') r .0 e;
+      returned = ap replayAnswer e;
+      unchanged = ap (λ y. written (tablesOut y) old) e;
+      unchanged' = ap (λ y. written (answersOut y) old') e;
+    })
+    go (inr x) e =
+        let (es, h, (rs, k, f)) = replayed-on trace tables o (length old) (length old') x e in
+        let g : replayed trace tables o (length old) (length old') ≡ inr (textsOf es o (tablesOf rs)) = e ∙ ap inr (sym f) in
+        inr (record {
+          none = handed-none (replayed trace tables o (length old) (length old')) (replayCauses trace tables o (length old) (length old')) (replay-refused-iff trace tables o (length old) (length old')) .0 (x, e);
+          events = es;
+          rows = rs;
+          accepted = trace-accepted-iff trace es .0 h;
+          held = tables-accepted-iff tables rs .0 k;
+          ends = textsOf es o (tablesOf rs) .tables;
+          lines = textsOf es o (tablesOf rs) .answers;
+          ends-are = refl;
+          lines-are = refl;
+          returned = ap replayAnswer g;
+          bytes = ap (λ y. written (tablesOut y) old) g;
+          bytes' = ap (λ y. written (answersOut y) old') g;
+        })
+
+pub demand-1 : Demand1
+demand-1 = record { list = list-does; normalise = normal-does; replay = replay-does }

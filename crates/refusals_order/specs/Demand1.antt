@@ -1,0 +1,82 @@
+-- Demand 1, whole: of every call, for all texts, orders and buffer lengths, what it returns and what it leaves in each buffer that it is
+-- lent: the one refusal that the order of checks picks, the buffers unchanged; or the result. By its contract a call returns and
+-- leaves just this, and Rattle proves of every function that it ends without a fault.
+use mathlib.Core.Path.{_≡_}
+use mathlib.Core.List.{List}
+use mathlib.Core.Logic.{_⊎_}
+use Prim.Native.Nat.{ℕ}
+use lib.ListN.{length}
+use Rattle.basics.specs.Text.{startingWith}
+use Rattle.refusals.specs.Checks.{written}
+use Rattle.trace_text.specs.Meaning.{IsTrace}
+use Rattle.tables_text.specs.Meaning.{IsTables}
+use Rattle.rows.specs.Rows.{tablesOf}
+use Rattle.tables_normal.specs.Normal.{normalText, tablesText, normalised, normalAnswer}
+use Rattle.list_pairs.specs.List.{listOf, pairBytes, countsOf}
+use Rattle.list_call.specs.Races.{listRaces, listAnswer, listOut}
+use Rattle.order_meaning.specs.Tables.{endTables}
+use Rattle.order_rows.specs.Runs.{operationAt}
+use Rattle.replay_texts.specs.Writing.{replayAnswer, tablesOut, answersOut}
+use Rattle.replay_call.specs.Replay.{answerLines, replayed}
+use Rattle.refusals_order.specs.Types.{Refusal, Event, Row, ListAnswer, NormalAnswer, ReplayAnswer}
+use Rattle.refusals_order.specs.Causes.{Cause, FirstOf, NoneOf}
+use Rattle.refusals_order.specs.Calls.{listCauses, normalCauses, replayCauses}
+
+-- ---- the list call on a trace and a buffer
+module _ (trace old : List ℕ) where
+  pub record ListRefused : Type 0 where
+    pub refusal : Refusal
+    pub first : FirstOf (listCauses trace (length old)) refusal
+    pub returned : listAnswer (listRaces trace (length old)) ≡ ListAnswer.Refused refusal
+    pub unchanged : written (listOut (listRaces trace (length old))) old ≡ old
+
+  pub record ListDone : Type 0 where
+    pub none : NoneOf (listCauses trace (length old))
+    pub events : List Event
+    pub accepted : IsTrace trace events
+    pub returned : listAnswer (listRaces trace (length old)) ≡ ListAnswer.Counts (countsOf events)
+    pub bytes : written (listOut (listRaces trace (length old))) old ≡ startingWith (pairBytes (listOf events)) old
+
+-- ---- the normaliser on a table text and a buffer
+module _ (tables old : List ℕ) where
+  pub record NormalRefused : Type 0 where
+    pub refusal : Refusal
+    pub first : FirstOf (normalCauses tables (length old)) refusal
+    pub returned : normalAnswer (normalised tables (length old)) ≡ NormalAnswer.Refused refusal
+    pub unchanged : written (normalised tables (length old)) old ≡ old
+
+  pub record NormalDone : Type 0 where
+    pub none : NoneOf (normalCauses tables (length old))
+    pub rows : List Row
+    pub accepted : IsTables tables rows
+    pub returned : normalAnswer (normalised tables (length old)) ≡ NormalAnswer.Length (length (normalText rows))
+    pub bytes : written (normalised tables (length old)) old ≡ startingWith (normalText rows) old
+
+-- ---- replay on a trace, a table text, an order and two buffers
+module _ (trace tables o old old' : List ℕ) where
+  pub record ReplayRefused : Type 0 where
+    pub refusal : Refusal
+    pub first : FirstOf (replayCauses trace tables o (length old) (length old')) refusal
+    pub returned : replayAnswer (replayed trace tables o (length old) (length old')) ≡ ReplayAnswer.Refused refusal
+    pub unchanged : written (tablesOut (replayed trace tables o (length old) (length old'))) old ≡ old
+    pub unchanged' : written (answersOut (replayed trace tables o (length old) (length old'))) old' ≡ old'
+
+  pub record ReplayDone : Type 0 where
+    pub none : NoneOf (replayCauses trace tables o (length old) (length old'))
+    pub events : List Event
+    pub rows : List Row
+    pub accepted : IsTrace trace events
+    pub held : IsTables tables rows
+    -- the normal text of the end tables, and the answer lines
+    pub ends : List ℕ
+    pub lines : List ℕ
+    pub ends-are : ends ≡ tablesText (endTables (operationAt events) o (tablesOf rows))
+    pub lines-are : lines ≡ answerLines events o (tablesOf rows)
+    pub returned : replayAnswer (replayed trace tables o (length old) (length old')) ≡ ReplayAnswer.Lengths (length ends) (length lines)
+    pub bytes : written (tablesOut (replayed trace tables o (length old) (length old'))) old ≡ startingWith ends old
+    pub bytes' : written (answersOut (replayed trace tables o (length old) (length old'))) old' ≡ startingWith lines old'
+
+pub record Demand1 : Type 0 where
+  pub list : (trace old : List ℕ) → ListRefused trace old ⊎ ListDone trace old
+  pub normalise : (tables old : List ℕ) → NormalRefused tables old ⊎ NormalDone tables old
+  pub replay : (trace tables o old old' : List ℕ) → ReplayRefused trace tables o old old' ⊎ ReplayDone trace tables o old old'

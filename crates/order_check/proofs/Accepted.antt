@@ -12,7 +12,7 @@ use native.Mathlib.Omega.{arith}
 use lib.Dec.{eqb}
 use lib.ListN.{length, getD}
 use borrow.Author.Tests.{eqb-true, eqb-false, eq-eqb}
-use Rattle.basics.proofs.Booleans.{split, and-left, and-right, or-left, or-right, or-cases}
+use Rattle.basics.proofs.Booleans.{split, and-left, and-right, or-cases}
 use Rattle.order_meaning.specs.Orders.{from, stands, IsOrderOf}
 use Rattle.basics.specs.Searches.{has}
 use Rattle.order_meaning.proofs.OrderLaws.{not-both}
@@ -22,7 +22,7 @@ use Rattle.refusals.specs.Checks.{_▹_, refuseIf, refuseAt}
 use Rattle.order_check.specs.Types.{Event, Refusal}
 use Rattle.order_check.specs.Schedule.{complete, anyBefore, earlyFrom, firstEarly, checkOrder, EarlyAt, LowestEarly, KeepsOrder}
 use Rattle.order_check.proofs.Flags.{complete-iff}
-use Rattle.order_check.proofs.SearchLaws.{early-like}
+use Rattle.order_check.proofs.SearchLaws.{found-in, finds-in, early-like}
 
 some-none : {A : Type 0} {x : A} → some x ≡ none → ⊥
 some-none p = let z : _≡_ {A = ℕ} 0 1 = cc in omega arith
@@ -42,17 +42,10 @@ one-first i j (x ∷ o) d h k = go (eqb i x) refl (eqb j x) refl h k (one-first 
 
 module _ (hb : ℕ → ℕ → Bool) where
   none-before : (j : ℕ) (o : List ℕ) → ((i : ℕ) → has i o ≡ true → hb i j ≡ false) → anyBefore hb j o ≡ false
-  unfolding anyBefore
-  none-before j [] h = refl
-  none-before j (i ∷ o) h = rw (h i (rw (eq-eqb i i refl) refl)) (none-before j o (λ k e. h k (rw e (or-true (eqb k i)))))
+  none-before j o h = split (anyBefore hb j o) (λ e. let (i, k, b) = found-in hb j o e in absurd (true≢false (sym b ∙ h i k))) (λ e. e)
 
   before-none : (i j : ℕ) (o : List ℕ) → anyBefore hb j o ≡ false → has i o ≡ true → hb i j ≡ false
-  unfolding anyBefore
-  before-none i j [] h k = absurd (false≢true k)
-  before-none i j (x ∷ o) h k =
-      or-cases (eqb i x) (has i o) k
-      (λ e. rw (eqb-true i x e) (or-left (hb x j) (anyBefore hb j o) h))
-      (λ e. before-none i j o (or-right (hb x j) (anyBefore hb j o) h) e)
+  before-none i j o h k = split (hb i j) (λ b. absurd (true≢false (sym (finds-in hb j o i k b) ∙ h))) (λ b. b)
 
   -- no position is early: no event stands before one that comes before it
   kept-none : (k : ℕ) (o : List ℕ) → ((i j : ℕ) → stands j i o ≡ true → hb i j ≡ false) → earlyFrom hb k o ≡ none

@@ -31,7 +31,7 @@ early-like f g h k (j ∷ o) = rw (any-like f g h j o, early-like f g h (k + 1) 
 
 -- ---- the events that must precede, by their numbers and by their places
 module _ (hb : ℕ → ℕ → Bool) (j : ℕ) where
-  found-in : (l : List ℕ) → anyBefore hb j l ≡ true → (i : ℕ) × (has i l ≡ true) × (hb i j ≡ true)
+  pub found-in : (l : List ℕ) → anyBefore hb j l ≡ true → (i : ℕ) × (has i l ≡ true) × (hb i j ≡ true)
   unfolding anyBefore
   found-in [] e = absurd (false≢true e)
   found-in (x ∷ l) e =
@@ -39,7 +39,7 @@ module _ (hb : ℕ → ℕ → Bool) (j : ℕ) where
       (λ u. (x, rw (eq-eqb x x refl) refl, u))
       (λ u. let (i, h, b) = found-in l u in (i, rw h (or-true (eqb i x)), b))
 
-  finds-in : (l : List ℕ) (i : ℕ) → has i l ≡ true → hb i j ≡ true → anyBefore hb j l ≡ true
+  pub finds-in : (l : List ℕ) (i : ℕ) → has i l ≡ true → hb i j ≡ true → anyBefore hb j l ≡ true
   unfolding anyBefore
   finds-in [] i h b = absurd (false≢true h)
   finds-in (x ∷ l) i h b =

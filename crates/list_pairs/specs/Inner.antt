@@ -1,17 +1,13 @@
--- Inner: the buffers, the counts as the code keeps them, of each pair one verdict, and what it hands over.
+-- Inner: the counts as the code keeps them, of each pair one verdict, and what it hands over.
 use mathlib.Core.Bool.{Bool, true, false}
 use mathlib.Core.List.{List}
 use mathlib.Core.Path.{_≡_}
 use Prim.Native.Nat.{ℕ, _*_, _≤_}
-use lib.ListN.{length, take, replicate}
+use lib.ListN.{length, take}
 use Rattle.call_answers.specs.Inner.{Small}
 use Rattle.list_verdicts.specs.Kinds.{Kind, pairs, ordered, commuting, listed}
 use Rattle.list_pairs.specs.Types.{Event, Counts, Verdict}
 use Rattle.list_pairs.specs.List.{Listing, listingOf}
-
--- a buffer as it is made: so many zeros
-unfoldable pub zeros : ℕ → List ℕ
-zeros n = replicate n 0
 
 -- a verdict counts for a kind
 abbrev pub counts : Kind → Verdict → Bool

@@ -6,7 +6,8 @@ ghost use mathlib.Core.Path.{_≡_};
 ghost use Prim.Native.Nat.{_≤_};
 ghost use lib.ListN.{length};
 ghost use Rattle.trace_events.specs.Events.{eventsOf};
-ghost use Rattle.list_pairs.specs.Inner.{zeros, HoldsList};
+ghost use Rattle.list_pairs.specs.Inner.{HoldsList};
+ghost use Rattle.basics.specs.Text.{zeros};
 
 // Room for two bytes of each pair of 256 events, and more.
 pub fn pair_room() -> [u8; 131072]

@@ -11,7 +11,7 @@ ghost use Rattle.text_numbers.specs.Inner.{Put};
 ghost use Rattle.call_answers.specs.Inner.{Small};
 ghost use Rattle.trace_events.specs.Events.{eventsOf};
 ghost use Rattle.list_pairs.specs.List.{listingOf};
-ghost use Rattle.list_pairs.specs.Inner.{zeros};
+ghost use Rattle.basics.specs.Text.{zeros};
 ghost use Rattle.list_report.specs.Report.{raceLine, raceLines, countsLine, listText, reportText};
 
 // `race=3,4`

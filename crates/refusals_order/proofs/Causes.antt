@@ -10,8 +10,7 @@ use lib.Dec.{ltb}
 use lib.ListN.{length, getElem?}
 use borrow.Author.Tests.{ltb-true, lt-ltb}
 use Rattle.basics.specs.Searches.{lowest, Lowest}
-use Rattle.basics.proofs.Booleans.{split}
-use Rattle.basics.proofs.Searches.{lowest-found, lowest-at}
+use Rattle.basics.proofs.Searches.{lowest-iff}
 use Rattle.refusals.specs.Checks.{Checked, _▹_, refuseIf, refuseAt, refuseNone, refuseShort}
 use Rattle.refusals.proofs.Checks.{not-handed, not-refused, same-refusal, same-value, found-at}
 use Rattle.text_reader.specs.Each.{inFront, readEach}
@@ -136,12 +135,6 @@ pub found-tells : (x : Option ℕ) (At : ℕ → Type 0) → ((j : ℕ) → (x �
 found-tells x At iff refusal r = (
   λ e. let (j, p, q) = found-at x refusal e in inl (j, iff j .0 p, q),
   λ f. ⊎-elim (λ (j, p, q). ap (λ y. refuseAt y refusal) (iff j .1 p) ∙ ap inl (sym q)) (λ h. absurd (h .1)) f,
-)
-
-pub lowest-iff : (P : ℕ → Type 0) (p : ℕ → Bool) → ((j : ℕ) → (p j ≡ true) ↔ P j) → (n j : ℕ) → (lowest p n ≡ some j) ↔ Lowest P n j
-lowest-iff P p iff n j = (
-  lowest-found P p iff n j,
-  λ l. lowest-at p n j (l .inside) (iff j .1 (l .here)) (λ k h. split (p k) (λ e. absurd (l .none-lower k h (iff k .0 e))) (λ e. e)),
 )
 
 pub lowest-tells : (P : ℕ → Type 0) (p : ℕ → Bool) → ((j : ℕ) → (p j ≡ true) ↔ P j) → (n : ℕ) (refusal : ℕ → Refusal)

@@ -1,7 +1,7 @@
 use Prim.Native.Nat.{ℕ}
 use mathlib.Core.Path.{refl}
 use lib.ListN.{length-replicate}
-use Rattle.list_pairs.specs.Inner.{zeros}
+use Rattle.basics.specs.Text.{zeros}
 use Rattle.list_pairs.proofs.listing.pair_room.Statement.{statement}
 use Rattle.list_pairs.proofs.listing.pair_room.Tie as tie
 

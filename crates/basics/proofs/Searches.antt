@@ -87,13 +87,6 @@ all-at p (suc n) i l h =
     (λ m. all-at p n i m (and-left (allBelow p n) (p n) h))
     (eq-or-lt-of-le (le-of-suc-le-suc l))
 
--- the lowest is found exactly where it is
-pub lowest-iff : (P : ℕ → Type 0) (p : ℕ → Bool) → ((j : ℕ) → (p j ≡ true) ↔ P j) → (n j : ℕ) → (lowest p n ≡ some j) ↔ Lowest P n j
-lowest-iff P p iff n j = (
-  lowest-found P p iff n j,
-  λ l. lowest-at p n j (l .inside) (iff j .1 (l .here)) (λ k h. split (p k) (λ e. absurd (l .none-lower k h (iff k .0 e))) (λ e. e)),
-)
-
 pub all-of : (p : ℕ → Bool) (n : ℕ) → ((i : ℕ) → i < n → p i ≡ true) → allBelow p n ≡ true
 all-of p zero h = refl
 all-of p (suc n) h = and-intro (all-of p n (λ i l. h i (omega arith))) (h n (omega arith))
@@ -146,3 +139,10 @@ lowest-at p (suc n) k l t f =
     (λ e. rw (← e, lowest-nowhere p k f, t))
     (λ m. rw (lowest-at p n k m t f))
     (eq-or-lt-of-le (le-of-suc-le-suc l))
+
+-- the lowest is found exactly where it is
+pub lowest-iff : (P : ℕ → Type 0) (p : ℕ → Bool) → ((j : ℕ) → (p j ≡ true) ↔ P j) → (n j : ℕ) → (lowest p n ≡ some j) ↔ Lowest P n j
+lowest-iff P p iff n j = (
+  lowest-found P p iff n j,
+  λ l. lowest-at p n j (l .inside) (iff j .1 (l .here)) (λ k h. split (p k) (λ e. absurd (l .none-lower k h (iff k .0 e))) (λ e. e)),
+)

@@ -15,6 +15,7 @@ use Rattle.text_lines.proofs.LimitLaws.{within-limit}
 use Rattle.text_reader.specs.Each.{readEach}
 use Rattle.text_fields.specs.Written.{clearEntry}
 use Rattle.refusals.specs.Checks.{Checked, _▹_, refuseIf, refuseAt, refuseNone, refuseLimit}
+use Rattle.basics.proofs.Searches.{lowest-iff}
 use Rattle.refusals.specs.Refusals.{numberOf}
 use Rattle.refusals.proofs.Checks.{not-refused, refused-by, found-at}
 use Rattle.rows_sort.specs.Sorting.{standsEarlier}
@@ -28,7 +29,7 @@ use Rattle.refusals_order.specs.Types.{Refusal, Row}
 use Rattle.refusals_order.specs.Causes.{Cause, FirstOf, NoneOf, When, lineByLine, LowestLine}
 use Rattle.refusals_order.specs.Texts.{limitCauses}
 use Rattle.refusals_order.specs.Tables.{RowMalformed, RowBit, rowCauses, RowLinesOf, keyCause, tablesCauses}
-use Rattle.refusals_order.proofs.Causes.{Tells, handed-none, then-tells, none-tells, some-handed, when-tells, found-tells, lowest-iff, never-tells, each-tells, lowest-line-iff}
+use Rattle.refusals_order.proofs.Causes.{Tells, handed-none, then-tells, none-tells, some-handed, when-tells, found-tells, never-tells, each-tells, lowest-line-iff}
 use Rattle.refusals_order.proofs.Texts.{limit-tells, bit-match}
 
 -- ---- a line: 14, 15

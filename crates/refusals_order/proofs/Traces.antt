@@ -12,7 +12,7 @@ use lib.Dec.{eqb}
 use lib.ListN.{length}
 use borrow.Author.Tests.{eqb-false, ne-eqb, not-true}
 use Rattle.basics.specs.Searches.{lowest, Lowest}
-use Rattle.basics.proofs.Searches.{lowest-none}
+use Rattle.basics.proofs.Searches.{lowest-none, lowest-iff}
 use Rattle.text_lines.specs.Lines.{lines}
 use Rattle.text_lines.specs.Limits.{limitOf, Within}
 use Rattle.text_lines.proofs.LimitLaws.{within-limit}
@@ -30,7 +30,7 @@ use Rattle.refusals_order.specs.Types.{Refusal, Event}
 use Rattle.refusals_order.specs.Causes.{Cause, FirstOf, NoneOf, When, Of, lineByLine, LowestLine}
 use Rattle.refusals_order.specs.Texts.{limitCauses}
 use Rattle.refusals_order.specs.Traces.{IsLine, LineMalformed, Misnumbered, LineBit, lineCauses, LinesOf, twiceCause, earlyCause, traceCauses}
-use Rattle.refusals_order.proofs.Causes.{Tells, handed-none, tells-same, then-tells, none-tells, some-handed, when-tells, lowest-iff, lowest-tells, never-tells, of-said, each-tells, lowest-line-iff}
+use Rattle.refusals_order.proofs.Causes.{Tells, handed-none, tells-same, then-tells, none-tells, some-handed, when-tells, lowest-tells, never-tells, of-said, each-tells, lowest-line-iff}
 use Rattle.refusals_order.proofs.Texts.{limit-tells, bit-operation}
 
 -- ---- a line: 4, 5, 6

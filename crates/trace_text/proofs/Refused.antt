@@ -1,5 +1,4 @@
--- Why a trace is refused, and at which line: 1, 2, 3 of the text, 4, 5, 6 of a line, 7 and 8 of the lowest line whose token stands
--- twice or is taken in too early. Assumes nothing.
+-- Why a trace is refused: 1, 2, 3 by the text, 4, 5, 6 by a line, 7 and 8 by the tokens (`refused-for`). Assumes nothing.
 use Prim.Native.Nat.{ℕ, _<_, _≤_}
 use native.Mathlib.Omega.{arith}
 use mathlib.Core.Path.{_≡_, refl}
@@ -8,23 +7,19 @@ use mathlib.Core.Logic.{inl, inr}
 use mathlib.Core.Option.{Option, none, some}
 use lib.Dec.{eqb}
 use lib.ListN.{length}
-use Rattle.basics.specs.Searches.{lowest, Lowest}
-use Rattle.basics.proofs.Searches.{lowest-found, lowest-none}
 use Rattle.basics.proofs.Booleans.{split}
 use Rattle.text_lines.specs.Lines.{lines}
 use Rattle.text_lines.specs.Limits.{limitOf, Within}
 use Rattle.text_lines.proofs.LimitLaws.{limit-within}
 use Rattle.text_reader.specs.Each.{readEach}
-use Rattle.text_reader.proofs.Each.{each-length, each-only, each-refused}
+use Rattle.text_reader.proofs.Each.{each-refused}
 use Rattle.refusals.specs.Refusals.{numberOf, placeOf, sourceOf}
-use Rattle.refusals.specs.Checks.{_▹_, refuseLimit, refuseAt}
-use Rattle.refusals.proofs.Checks.{not-refused, same-refusal, refused-by, nothing-found, found-at, limit-kept}
+use Rattle.refusals.specs.Checks.{_▹_, refuseLimit}
+use Rattle.refusals.proofs.Checks.{not-refused, same-refusal, refused-by, limit-kept}
 use Rattle.trace_line.specs.EventLine.{clearEvent, readNumberedEvent, onLine, readEvent}
 use Rattle.trace_text.specs.Types.{Refusal, Limit, Source, Event}
-use Rattle.trace_text.specs.TraceText.{twice, takenEarly, readTrace}
+use Rattle.trace_text.specs.TraceText.{readTrace}
 use Rattle.trace_text.specs.Inner.{checkTokens}
-use Rattle.trace_text.specs.Meaning.{TwiceAt, TakenEarlyAt}
-use Rattle.trace_text.proofs.TokenMeaning.{twice-iff, taken-early-iff}
 
 -- ---- the text: 1, 2, 3 have the place 0
 limit-refuses : (l : Limit) (r : Refusal) → refuseLimit l Refusal.TraceTooLong Refusal.TraceUnended Refusal.TraceTooManyLines ≡ inl r
@@ -63,37 +58,3 @@ refused-for s r h limit line tokens =
     let (n, p) = line-refuses j l r e in
     line w n (omega arith))
     (λ es e v. tokens w es e v))
-
--- ---- the tokens: 7 of the lowest line with a token twice; 8 where there is none, of the lowest that takes one in too early
-module _ (es : List Event) where
-  abbrev NoneTwice : Type 0
-  NoneTwice = (j : ℕ) → j < length es → TwiceAt es j → ⊥
-
-  tokens-refused : {G : Type 0} (r : Refusal) → checkTokens es ≡ inl r
-      → ((j : ℕ) → r ≡ Refusal.TokenTwice j → Lowest (TwiceAt es) (length es) j → G)
-      → ((i : ℕ) → r ≡ Refusal.TokenTooEarly i → Lowest (TakenEarlyAt es) (length es) i → NoneTwice → G)
-      → G
-  unfolding checkTokens
-  tokens-refused r h found early =
-      let twices = lowest (twice es) (length es) in
-      let earlies = lowest (takenEarly es) (length es) in
-      refused-by (refuseAt twices Refusal.TokenTwice) (λ _. refuseAt earlies Refusal.TokenTooEarly ▹ λ _. inr es) h
-      (λ u. let (j, f, e) = found-at twices Refusal.TokenTwice u in
-      found j e (lowest-found (TwiceAt es) (twice es) (twice-iff es) (length es) j f))
-      (λ _ p u. refused-by (refuseAt earlies Refusal.TokenTooEarly) (λ _. inr es) u
-      (λ v. let (i, f, e) = found-at earlies Refusal.TokenTooEarly v in
-      early i e (lowest-found (TakenEarlyAt es) (takenEarly es) (taken-early-iff es) (length es) i f)
-      (lowest-none (TwiceAt es) (twice es) (twice-iff es) (length es) (nothing-found twices _ p)))
-      (λ _ q v. not-refused v))
-
-  -- the place is a line of the trace
-  tokens-place : (r : Refusal) → checkTokens es ≡ inl r → placeOf r < length es
-  tokens-place r h = tokens-refused r h (λ j e l. rw e (l .inside)) (λ i e l n. rw e (l .inside))
-
--- there are at most 256 lines
-pub refused-place : (s : List ℕ) (r : Refusal) → readTrace s ≡ inl r → placeOf r ≤ 256
-refused-place s r h =
-    refused-for s r h
-    (λ n p q. omega arith)
-    (λ w n p. let f = w .few in omega arith)
-    (λ w es e u. let f = w .few in omega (arith, tokens-place es r u, each-length _ 0 (lines s) es (each-only readEvent (λ j l v. Unit {0}) (λ j l v g. tt) 0 (lines s) es e)))

@@ -1,9 +1,11 @@
 // What the calls answer, apart from their buffers.
 pub mod list;
 pub mod normal;
+pub mod page;
 pub mod replay;
 
 pub use list::Counts;
 pub use list::ListAnswer;
 pub use normal::NormalAnswer;
+pub use page::PageAnswer;
 pub use replay::ReplayAnswer;

@@ -2,9 +2,9 @@
 use Prim.Native.Nat.{ℕ}
 use mathlib.Core.List.{List, []}
 use mathlib.Core.Path.{_≡_, refl}
-use Rattle.exports_values.specs.Types.{Refusal, Counts, ListAnswer, NormalAnswer, ReplayAnswer, Refused}
+use Rattle.exports_values.specs.Types.{Refusal, Counts, ListAnswer, NormalAnswer, PageAnswer, ReplayAnswer, Refused}
 use Rattle.refusals.specs.Refused.{nothingRefused, refusedAs}
-use Rattle.exports_values.specs.Values.{listAs, normalAs, replayAs}
+use Rattle.exports_values.specs.Values.{listAs, normalAs, pageAs, replayAs}
 
 pub list-counted : (trace : List ℕ) {answer : ListAnswer} {c : Counts} {x : Refused} → answer ≡ ListAnswer.Counts c → x ≡ nothingRefused
     → record { refused = x; pairs = c .pairs; ordered = c .ordered; commuting = c .commuting; listed = c .listed } ≡ listAs trace answer
@@ -25,6 +25,16 @@ pub normal-written : (tables : List ℕ) {answer : NormalAnswer} {n : ℕ} {x : 
     → record { refused = x; length = n } ≡ normalAs tables answer
 unfolding normalAs
 normal-written tables e h = rw (e, h) refl
+
+pub page-refused : (trace : List ℕ) {answer : PageAnswer} {r : Refusal} {x : Refused} → answer ≡ PageAnswer.Refused r → x ≡ refusedAs trace [] r
+    → record { refused = x; length = 0 } ≡ pageAs trace answer
+unfolding pageAs
+page-refused trace e h = rw (e, h) refl
+
+pub page-written : (trace : List ℕ) {answer : PageAnswer} {n : ℕ} {x : Refused} → answer ≡ PageAnswer.Length n → x ≡ nothingRefused
+    → record { refused = x; length = n } ≡ pageAs trace answer
+unfolding pageAs
+page-written trace e h = rw (e, h) refl
 
 pub replay-written : (trace tables : List ℕ) {answer : ReplayAnswer} {m n : ℕ} {x : Refused} → answer ≡ ReplayAnswer.Lengths m n → x ≡ nothingRefused
     → record { refused = x; tables = m; answers = n } ≡ replayAs trace tables answer

@@ -1,7 +1,7 @@
 -- What the calls for other programs answer: the answer of the call, as numbers.
 use Prim.Native.Nat.{ℕ}
 use mathlib.Core.List.{List, []}
-use Rattle.exports_values.specs.Types.{ListAnswer, Listed, NormalAnswer, Normalised, ReplayAnswer, Replayed}
+use Rattle.exports_values.specs.Types.{ListAnswer, Listed, NormalAnswer, Normalised, PageAnswer, Paged, ReplayAnswer, Replayed}
 use Rattle.refusals.specs.Refused.{nothingRefused, refusedAs}
 
 -- the list call on a trace: the counts, or the refusal and counts of 0
@@ -14,6 +14,11 @@ listAs trace (ListAnswer.Refused r) = record { refused = refusedAs trace [] r; p
 unfoldable pub normalAs : List ℕ → NormalAnswer → Normalised
 normalAs tables (NormalAnswer.Length n) = record { refused = nothingRefused; length = n }
 normalAs tables (NormalAnswer.Refused r) = record { refused = refusedAs [] tables r; length = 0 }
+
+-- the page of a trace: its length, or the refusal and a length of 0
+unfoldable pub pageAs : List ℕ → PageAnswer → Paged
+pageAs trace (PageAnswer.Length n) = record { refused = nothingRefused; length = n }
+pageAs trace (PageAnswer.Refused r) = record { refused = refusedAs trace [] r; length = 0 }
 
 -- replay of a trace on tables: the lengths of the end tables and of the answers, or the refusal and lengths of 0
 unfoldable pub replayAs : List ℕ → List ℕ → ReplayAnswer → Replayed

@@ -43,6 +43,8 @@ returned (Refusal.TablesShort needed) = refusalRow 32 needed Source.Neither
 returned (Refusal.AnswersShort needed) = refusalRow 33 needed Source.Neither
 -- over 512 entries held
 returned Refusal.TooManyEntries = refusalRow 41 0 Source.Neither
+-- page buffer too short
+returned (Refusal.PageShort needed) = refusalRow 51 needed Source.Neither
 
 abbrev pub numberOf : Refusal → ℕ
 numberOf r = returned r .number

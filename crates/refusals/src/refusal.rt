@@ -24,6 +24,7 @@ pub enum Refusal {
     TablesShort(usize),
     AnswersShort(usize),
     TooManyEntries,
+    PageShort(usize),
 }
 
 // What a check answers: accepted, or what is refused.
@@ -91,6 +92,7 @@ impl Refusal {
             Refusal::TablesShort(needed) => row(32, needed, Source::Neither),
             Refusal::AnswersShort(needed) => row(33, needed, Source::Neither),
             Refusal::TooManyEntries => row(41, 0, Source::Neither),
+            Refusal::PageShort(needed) => row(51, needed, Source::Neither),
         }
     }
 }

@@ -3,6 +3,7 @@ use Prim.Native.Nat.{ℕ, zero, suc, _+_, _-_, _<_}
 use mathlib.Core.Bool.{Bool, true, false, cond}
 use mathlib.Core.List.{List, [], _∷_, _++_, append-assoc}
 use mathlib.Core.Path.{_≡_, refl, sym, _∙_, ap}
+use native.Mathlib.Nat.{zero-add}
 use native.Mathlib.Numerals.{add-one}
 use native.Mathlib.Omega.{arith}
 use borrow.Author.Tests.{eqb-true}
@@ -49,6 +50,16 @@ pub lines-plain : (s : List ℕ) (k : ℕ) → newlines (getD (lines s) k []) �
 unfolding lines newlines
 lines-plain [] k = refl
 lines-plain (b ∷ s) k = plain-step b (eqb b 10) (lines s) refl (lines-plain s) k
+
+-- ---- the LFs of one text behind another
+pub newlines-append : (a b : List ℕ) → newlines (a ++ b) ≡ newlines a + newlines b
+unfolding newlines
+newlines-append [] b = rw zero-add
+newlines-append (x ∷ a) b = either (eqb x 10) (newlines-append a b)
+  where
+    either : (t : Bool) → newlines (a ++ b) ≡ newlines a + newlines b → cond t (newlines (a ++ b) + 1) (newlines (a ++ b)) ≡ cond t (newlines a + 1) (newlines a) + newlines b
+    either true h = omega (arith, h)
+    either false h = h
 
 -- ---- a text that ends with LF is its lines, each followed by LF
 ends-tail : (b c : ℕ) (s : List ℕ) → endsWithLf (b ∷ c ∷ s) ≡ endsWithLf (c ∷ s)

@@ -1,0 +1,5 @@
+pub mod Widths
+pub mod Putting
+pub mod PairColumns
+pub mod Plain
+pub mod Unique

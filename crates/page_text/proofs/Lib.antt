@@ -1,0 +1,8 @@
+pub mod Turns
+pub mod Putting
+pub mod Ranges
+pub mod Sizes
+pub mod Lines
+pub mod Unique
+pub mod Inside
+pub mod CountColumns

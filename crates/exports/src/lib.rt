@@ -1,16 +1,19 @@
 // The calls for other programs: the answer of each call, as numbers.
 use exports_values::Listed;
 use exports_values::Normalised;
+use exports_values::Paged;
 use exports_values::Replayed;
 use exports_values::list_as;
 use exports_values::normal_as;
+use exports_values::page_as;
 use exports_values::replay_as;
 ghost use mathlib.Core.Path.{_≡_};
 ghost use lib.ListN.{length};
 ghost use Rattle.refusals.specs.Checks.{written};
-ghost use Rattle.exports_values.specs.Values.{listAs, normalAs, replayAs};
+ghost use Rattle.exports_values.specs.Values.{listAs, normalAs, pageAs, replayAs};
 ghost use Rattle.list_call.specs.Races.{listRaces, listAnswer, listOut};
 ghost use Rattle.tables_normal.specs.Normal.{normalised, normalAnswer};
+ghost use Rattle.page_call.specs.Paged.{paged, pageAnswer};
 ghost use Rattle.replay_texts.specs.Writing.{replayAnswer, tablesOut, answersOut};
 ghost use Rattle.replay_call.specs.Replay.{replayed};
 
@@ -33,6 +36,16 @@ pub extern "C" fn gellunka_normalise(tables: &[u8], out: &mut [u8]) -> Normalise
 {
     let answer = tables_normal::normalise(tables, out);
     normal_as(tables, answer)
+}
+
+// The page of a trace's list, from the buffer's start. The bytes after it, or all after a refusal, stay as they were.
+#[no_mangle]
+pub extern "C" fn gellunka_page(trace: &[u8], out: &mut [u8]) -> Paged
+    ensures { λ r. ⌜ r ≡ pageAs (now (trace .entry)) (pageAnswer (paged (now (trace .entry)) (length (now (out .entry))))) ⌝ }
+    ensures { λ _. ⌜ now (out .exit) ≡ written (paged (now (trace .entry)) (length (now (out .entry)))) (now (out .entry)) ⌝ }
+{
+    let answer = page_call::page(trace, out);
+    page_as(trace, answer)
 }
 
 // A trace's events in the given order, one byte for each event, from the tables of a text: the normalised end tables and the

@@ -43,23 +43,20 @@ fn operation_items(operation: &Operation) -> (&'static str, String) {
         Operation::Barrier(switch) => ("bar", format!(" sw={switch}")),
         Operation::Message(switch) => ("msg", format!(" sw={switch}")),
         Operation::Table(switch, operation) => {
-            let (word, items) = table_items(operation);
-            (word, format!(" sw={switch} {items}"))
+            (operation.word(), format!(" sw={switch} {}", table_items(operation)))
         }
     }
 }
 
-fn table_items(operation: &TableOperation) -> (&'static str, String) {
+fn table_items(operation: &TableOperation) -> String {
+    use TableOperation::{Add, CheckedAdd, Delete, Modify, Packet, StrictDelete, StrictModify};
     match operation {
-        TableOperation::Packet(packet) => ("pkt", packet_items(packet)),
-        TableOperation::Add(entry) => ("add", EntryItems(*entry).to_string()),
-        TableOperation::CheckedAdd(entry) => ("addc", EntryItems(*entry).to_string()),
-        TableOperation::StrictModify(entry) => ("mods", EntryItems(*entry).to_string()),
-        TableOperation::Modify(entry) => ("modn", EntryItems(*entry).to_string()),
-        TableOperation::StrictDelete(key) => {
-            ("dels", format!("prio={} {}", key.priority.0, MatchItems(key.matching)))
+        Packet(packet) => packet_items(packet),
+        Add(entry) | CheckedAdd(entry) | StrictModify(entry) | Modify(entry) => {
+            EntryItems(*entry).to_string()
         }
-        TableOperation::Delete(matching) => ("deln", MatchItems(*matching).to_string()),
+        StrictDelete(key) => format!("prio={} {}", key.priority.0, MatchItems(key.matching)),
+        Delete(matching) => MatchItems(*matching).to_string(),
     }
 }
 

@@ -12,7 +12,8 @@ use reference::races::racing_pairs;
 use reference::replay::recorded_order;
 use reference::trace::Event;
 use reference::{
-    happens_before, list, normal_text, normalise, read_tables, read_trace, replay, Counts, Refusal,
+    happens_before, list, normal_text, normalise, page, read_tables, read_trace, replay, Counts, Refusal,
+    PAGE_ROOM,
 };
 use std::collections::BTreeMap;
 
@@ -108,9 +109,10 @@ fn every_refusal_is_reached() {
         let mut room = |most| vec![0; random.below(most)];
         let (mut list_room, mut tables_room, mut answers_room) = (room(20), room(2000), room(60));
         note(list(&trace, &mut list_room).map(drop));
+        note(page(&trace, &mut room(600)).map(drop));
         note(replay(&trace, &tables, &order, &mut tables_room, &mut answers_room).map(drop));
     }
-    for number in [0, 1, 2, 3, 4, 5, 6, 7, 8, 11, 12, 13, 14, 15, 16, 21, 22, 31, 32, 33] {
+    for number in [0, 1, 2, 3, 4, 5, 6, 7, 8, 11, 12, 13, 14, 15, 16, 21, 22, 31, 32, 33, 51] {
         let times = reached.get(&number).copied().unwrap_or(0);
         assert!(times >= 50, "refusal {number} reached {times} times: {reached:?}");
     }
@@ -191,6 +193,7 @@ fn worst_cases() {
     let all = 256 * 255 / 2;
     let racing = Counts { pairs: all, ordered: 0, commuting: 0, listed: all };
     assert_eq!(counts(&traces::all_racing()), racing);
+    assert_eq!(page(&traces::all_racing(), &mut vec![0; PAGE_ROOM]), Ok(PAGE_ROOM));
     assert_eq!(counts(&traces::all_racing_modifies()), racing);
     assert_eq!(counts(&traces::token_chain()), Counts { ordered: all, listed: 0, ..racing });
     let half = 128 * 127 / 2;

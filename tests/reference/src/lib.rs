@@ -11,6 +11,7 @@
 //! | [`trace`] | Trace text |
 //! | [`causality`] | Happens-before |
 //! | [`races`] | The list |
+//! | [`page`](mod@page) | The page |
 //! | [`tables`] | Tables: table texts and their normal form |
 //! | [`replay`](mod@replay) | Replay, and what an order of events does |
 //! | [`refusal`] | Refusal table |
@@ -21,13 +22,14 @@
 //! (`write`), what precedes an event is looked up. What the fast forms mean stays beside them, and tests hold one
 //! against the other.
 //!
-//! The three calls write into buffers that the caller lends, as the proved ones do:
-//! [`list`], [`normalise`] and [`replay()`].
+//! The four calls write into buffers that the caller lends, as the proved ones do:
+//! [`list`], [`page()`], [`normalise`] and [`replay()`].
 
 pub mod causality;
 pub mod commute;
 pub mod flow;
 pub mod output;
+pub mod page;
 pub mod races;
 pub mod refusal;
 pub mod replay;
@@ -41,6 +43,7 @@ mod write;
 
 pub use causality::{happens_before, EventSet};
 pub use commute::commutes;
+pub use page::{page, PAGE_ROOM};
 pub use races::{list, Counts};
 pub use refusal::Refusal;
 pub use replay::{replay, Lengths};

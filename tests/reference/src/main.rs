@@ -2,11 +2,12 @@
 //!
 //! ```text
 //! reference list < TRACE
+//! reference page < TRACE
 //! reference normalise < TABLES
 //! reference replay TRACE TABLES [ORDER]
 //! ```
 
-use reference::output::{normalised, racelist, replayed};
+use reference::output::{normalised, racelist, racepage, replayed};
 use std::io::{self, Read, Write};
 use std::process::ExitCode;
 
@@ -15,10 +16,11 @@ fn main() -> ExitCode {
     let arguments: Vec<&str> = arguments.iter().map(String::as_str).collect();
     let output = match arguments[..] {
         ["list"] => standard_input().map(|trace| racelist(&trace)),
+        ["page"] => standard_input().map(|trace| racepage(&trace)),
         ["normalise"] => standard_input().map(|tables| normalised(&tables)),
         ["replay", trace, tables] => replay_files(trace, tables, None),
         ["replay", trace, tables, order] => replay_files(trace, tables, Some(order)),
-        _ => Err("use: reference list | normalise | replay TRACE TABLES [ORDER]".to_owned()),
+        _ => Err("use: reference list | page | normalise | replay TRACE TABLES [ORDER]".to_owned()),
     };
     let written = output.and_then(|bytes| {
         io::stdout().write_all(&bytes).map_err(|error| format!("standard output: {error}"))

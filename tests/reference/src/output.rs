@@ -1,5 +1,6 @@
 //! What the project's programs print, as document 01 says under "Program and worked lines".
 
+use crate::page::{page, PAGE_ROOM};
 use crate::races::races;
 use crate::refusal::Refusal;
 use crate::replay::{outcome, put_answers};
@@ -62,10 +63,20 @@ impl<const N: usize> Piece<N> {
     }
 }
 
+/// `racepage` of a trace: the page, or the refusal.
+pub fn racepage(trace: &[u8]) -> Vec<u8> {
+    written(PAGE_ROOM, |room| page(trace, room))
+}
+
 /// `normalise` of a table text: the normal text, or the refusal.
 pub fn normalised(tables: &[u8]) -> Vec<u8> {
-    let mut text = vec![0; tables.len()];
-    match normalise(tables, &mut text) {
+    written(tables.len(), |room| normalise(tables, room))
+}
+
+/// What a call writes into a buffer of so many bytes, or the refusal.
+fn written<'a>(room: usize, call: impl FnOnce(&mut [u8]) -> Result<usize, Refusal<'a>>) -> Vec<u8> {
+    let mut text = vec![0; room];
+    match call(&mut text) {
         Ok(length) => {
             text.truncate(length);
             text

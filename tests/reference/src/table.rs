@@ -22,6 +22,33 @@ pub enum TableOperation {
     Delete(Match),
 }
 
+impl TableOperation {
+    /// The word of `do`.
+    pub fn word(&self) -> &'static str {
+        match self {
+            TableOperation::Packet(_) => "pkt",
+            TableOperation::Add(_) => "add",
+            TableOperation::CheckedAdd(_) => "addc",
+            TableOperation::StrictModify(_) => "mods",
+            TableOperation::Modify(_) => "modn",
+            TableOperation::StrictDelete(_) => "dels",
+            TableOperation::Delete(_) => "deln",
+        }
+    }
+
+    /// The priority, if there is one.
+    pub fn priority(&self) -> Option<u16> {
+        use TableOperation::{Add, CheckedAdd, Delete, Modify, Packet, StrictDelete, StrictModify};
+        match self {
+            Packet(_) | Delete(_) => None,
+            Add(entry) | CheckedAdd(entry) | StrictModify(entry) | Modify(entry) => {
+                Some(entry.key.priority.0)
+            }
+            StrictDelete(key) => Some(key.priority.0),
+        }
+    }
+}
+
 /// What an event answers, if it does.
 #[derive(Clone, Copy, Debug, PartialEq, Eq)]
 pub enum Answer {

@@ -1,7 +1,9 @@
 //! The sentences of document 01, one by one.
 
 use reference::replay::{check_order, recorded_order};
-use reference::{happens_before, list, normalise, read_tables, read_trace, replay, Counts, Lengths};
+use reference::{
+    happens_before, list, normalise, page, read_tables, read_trace, replay, Counts, Lengths, PAGE_ROOM,
+};
 
 const WORKED: &str = "\
 ev=0 do=pkt in=- out=1 sw=1 port=1 src=0a000001 dst=0a000002 proto=6 sport=4000 dport=80
@@ -12,6 +14,7 @@ ev=4 do=pkt in=4 out=- sw=2 port=1 src=0a000001 dst=0a000002 proto=6 sport=4000 
 ";
 
 const ANY: &str = "port=* src=00000000/0 dst=00000000/0 proto=* sport=* dport=*";
+const PACKET: &str = "port=1 src=00000000 dst=00000000 proto=1 sport=1 dport=1";
 
 /// Number, place and line of the refusal of a trace; number 0 where it is accepted.
 fn trace_refusal(text: &str) -> (u8, usize, String) {
@@ -61,6 +64,109 @@ fn worked_lines() {
     assert_eq!(list(b"", &mut out), Ok(Counts::default()));
     let short = list(WORKED.as_bytes(), &mut out[..1]).unwrap_err();
     assert_eq!((short.number, short.place, short.line), (31, 2, &b""[..]));
+}
+
+/// The page of a trace.
+fn page_of(trace: &str) -> String {
+    let mut out = vec![9; PAGE_ROOM + 1];
+    let length = page(trace.as_bytes(), &mut out).unwrap();
+    assert!(out[length..].iter().all(|&byte| byte == 9));
+    String::from_utf8(out[..length].to_vec()).unwrap()
+}
+
+/// A page of pair lines, given without the 28 blanks at their end, and of the four counts.
+fn pinned(pairs: &[&str], counts: [usize; 4]) -> String {
+    let names = ["pairs    ", "ordered  ", "commuting", "listed   "];
+    let pairs = pairs.iter().map(|pair| format!("{pair}{}\n", " ".repeat(28)));
+    pairs.chain(names.iter().zip(counts).map(|(name, count)| format!("{name}{count:>51}\n"))).collect()
+}
+
+#[test]
+fn the_page_of_the_worked_lines() {
+    let spelled = [
+        "  3   4  2 add  pkt     10     -                            \n",
+        "pairs                                                      2\n",
+        "ordered                                                    1\n",
+        "commuting                                                  0\n",
+        "listed                                                     1\n",
+    ];
+    assert!(spelled.iter().all(|line| line.len() == 61));
+    assert_eq!(page_of(WORKED), spelled.concat());
+    assert_eq!(page_of(WORKED), pinned(&["  3   4  2 add  pkt     10     -"], [2, 1, 0, 1]));
+    let mut out = [9; 5 * 61];
+    let short = page(WORKED.as_bytes(), &mut out[1..]).unwrap_err();
+    assert_eq!((short.number, short.place, short.line), (51, 5 * 61, &b""[..]));
+    // 51 is checked last.
+    let refused = page(b"ev=7 do=oth in=- out=-\n", &mut out[..0]).unwrap_err();
+    assert_eq!((refused.number, refused.place), (5, 0));
+    assert_eq!(out, [9; 5 * 61]);
+}
+
+/// Each word stands once on either side. The lines are in the list's order, not switch by switch.
+#[test]
+fn every_word_on_a_page() {
+    let write =
+        |switch: u8, priority: u16, port: u8| format!("sw={switch} prio={priority} {ANY} act=p{port}");
+    let trace = plain_trace(&[
+        ("pkt", format!("sw=0 {PACKET}")),
+        ("dels", format!("sw=15 prio=65535 {ANY}")),
+        ("add", write(9, 0, 1)),
+        ("deln", format!("sw=10 {ANY}")),
+        ("addc", write(1, 10, 1)),
+        ("mods", write(2, 999, 1)),
+        ("modn", write(3, 1000, 1)),
+        ("dels", format!("sw=0 prio=5 {ANY}")),
+        ("add", write(15, 65_535, 2)),
+        ("deln", format!("sw=9 {ANY}")),
+        ("addc", write(10, 65_534, 2)),
+        ("mods", write(1, 10, 2)),
+        ("modn", write(2, 1, 2)),
+        ("pkt", format!("sw=3 {PACKET}")),
+    ]);
+    let pairs = [
+        "  0   7  0 pkt  dels     -     5",
+        "  1   8 15 dels add  65535 65535",
+        "  2   9  9 add  deln     0     -",
+        "  3  10 10 deln addc     - 65534",
+        "  4  11  1 addc mods    10    10",
+        "  5  12  2 mods modn   999     1",
+        "  6  13  3 modn pkt   1000     -",
+    ];
+    assert_eq!(page_of(&trace), pinned(&pairs, [7, 0, 0, 7]));
+}
+
+/// Events of one, two and three digits, and pairs without a priority.
+#[test]
+fn numbers_on_a_page() {
+    let mut lines = vec![("oth", String::new()); 256];
+    for (packet, delete, switch) in [(0, 255, 7), (9, 10, 0), (100, 99, 15), (254, 101, 1)] {
+        lines[packet] = ("pkt", format!("sw={switch} {PACKET}"));
+        lines[delete] = ("deln", format!("sw={switch} {ANY}"));
+    }
+    let pairs = [
+        "  0 255  7 pkt  deln     -     -",
+        "  9  10  0 pkt  deln     -     -",
+        " 99 100 15 deln pkt      -     -",
+        "101 254  1 deln pkt      -     -",
+    ];
+    assert_eq!(page_of(&plain_trace(&lines)), pinned(&pairs, [4, 0, 0, 4]));
+}
+
+#[test]
+fn counts_on_a_page() {
+    assert_eq!(page_of(""), pinned(&[], [0, 0, 0, 0]));
+    assert_eq!(page_of("ev=0 do=oth in=- out=-\n"), pinned(&[], [0, 0, 0, 0]));
+    // 12 packets commute, and a barrier orders two deletes.
+    let delete = || ("deln", format!("sw=1 {ANY}"));
+    let mut lines = vec![("pkt", format!("sw=2 {PACKET}")); 12];
+    lines.extend([delete(), ("bar", "sw=1".to_owned()), delete()]);
+    assert_eq!(page_of(&plain_trace(&lines)), pinned(&[], [67, 1, 66, 0]));
+    let checked = format!("sw=15 prio=65535 {ANY} act=drop");
+    let page = page_of(&plain_trace(&vec![("addc", checked); 256]));
+    assert_eq!((page.len(), PAGE_ROOM), (1_991_284, 1_991_284));
+    assert!(page.starts_with("  0   1 15 addc addc 65535 65535  "));
+    assert!(page.ends_with(&pinned(&["254 255 15 addc addc 65535 65535"], [32_640, 0, 0, 32_640])));
+    assert!(page.lines().all(|line| line.len() == 60));
 }
 
 #[test]
@@ -186,7 +292,7 @@ fn tokens_twice_and_too_early() {
 #[test]
 fn barriers_and_chains() {
     let write = format!("sw=1 {ANY}");
-    let packet = "sw=1 port=1 src=00000000 dst=00000000 proto=1 sport=1 dport=1".to_owned();
+    let packet = format!("sw=1 {PACKET}");
     let bar = || ("bar", "sw=1".to_owned());
     let trace = plain_trace(&[
         ("deln", write.clone()),
@@ -209,10 +315,9 @@ fn barriers_and_chains() {
 
 #[test]
 fn a_chain_joins_a_packet_through_tokens() {
-    let packet = "sw=1 port=1 src=00000000 dst=00000000 proto=1 sport=1 dport=1";
     let trace = format!(
         "ev=0 do=deln in=- out=- sw=1 {ANY}\nev=1 do=bar in=- out=1 sw=1\n\
-         ev=2 do=oth in=1 out=2\nev=3 do=pkt in=2 out=- {packet}\n"
+         ev=2 do=oth in=1 out=2\nev=3 do=pkt in=2 out=- sw=1 {PACKET}\n"
     );
     let mut out = [0; 2];
     let counts = Counts { pairs: 1, ordered: 1, commuting: 0, listed: 0 };

@@ -23,6 +23,17 @@ fn list() {
 }
 
 #[test]
+fn page() {
+    let counts: String = ["pairs    ", "ordered  ", "commuting", "listed   "]
+        .map(|name| format!("{name}{:>51}\n", 0))
+        .concat();
+    assert_eq!(printed(&["page"], b""), counts);
+    assert_eq!(printed(&["page"], b"ev=0 do=oth in=- out=-\n"), counts);
+    assert_eq!(printed(&["page"], b"ev=0\n"), "refused=4 place=0\nev=0\n");
+    assert_eq!(printed(&["page"], b"x"), "refused=2 place=0\n");
+}
+
+#[test]
 fn normalise() {
     assert_eq!(printed(&["normalise"], b""), "");
     assert_eq!(printed(&["normalise"], b"x"), "refused=12 place=0\n");

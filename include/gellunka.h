@@ -31,6 +31,7 @@ extern "C" {
 
 /* Buffers of these lengths are never too short: proved, crates/replay_agreement/proofs/Rooms.antt. */
 #define GELLUNKA_LIST_ROOM 65280    /* of gellunka_list_races */
+#define GELLUNKA_PAGE_ROOM 1991284  /* of gellunka_page */
 #define GELLUNKA_NORMAL_ROOM 26880  /* of gellunka_normalise */
 #define GELLUNKA_TABLES_ROOM 53760  /* of gellunka_replay, the end tables */
 #define GELLUNKA_ANSWERS_ROOM 7168  /* of gellunka_replay, the answers */
@@ -52,6 +53,7 @@ extern "C" {
  *    21        order: length wrong, or an event missing            0
  *    22        order: event put before one that happens before it  lowest such position
  *    31 32 33  buffer too short: list / tables / answers           bytes needed
+ *    51        buffer too short: page                              bytes needed
  *
  * (41, over 512 entries held, cannot happen.) Of several causes the first in document 01's order of
  * checks is told. Lines and positions count from 0.
@@ -72,6 +74,12 @@ struct gellunka_listed {
     size_t ordered;   /* those of which one happens before the other */
     size_t commuting; /* those that are not ordered, and commute */
     size_t listed;    /* the rest, which are in the list */
+};
+
+/* The answer of gellunka_page. After a refusal the length is 0. */
+struct gellunka_paged {
+    struct gellunka_refused refused;
+    size_t length; /* of the page: 61 * (listed + 4) */
 };
 
 /* The answer of gellunka_normalise. After a refusal the length is 0. */
@@ -98,6 +106,29 @@ struct gellunka_replayed {
  */
 struct gellunka_listed gellunka_list_races(const uint8_t *trace, size_t trace_length, uint8_t *out,
                                            size_t out_length);
+
+/*
+ * The list of racing pairs of a trace as a page, 60 columns wide.
+ *
+ * Refuses by 1 to 8, then by 51, and leaves `out` as it was then. Otherwise the first `length` bytes of `out`
+ * are the page; the bytes after them are as they were. Each listed pair is a line of 60 bytes and LF, in the
+ * order of gellunka_list_races:
+ *
+ *    columns  hold
+ *     1 -  3  the lower event, right-justified
+ *     5 -  7  the higher event, right-justified
+ *     9 - 10  the switch, right-justified
+ *    12 -     the `do` word of the lower event, left-justified
+ *    17 -     the `do` word of the higher event, left-justified
+ *    22 - 26  the priority of the lower event, right-justified; `-` where there is none
+ *    28 - 32  the priority of the higher event, right-justified; `-` where there is none
+ *
+ * The rest are blanks. Then come the counts pairs, ordered, commuting and listed, a line of 60 bytes and LF
+ * each: the name from column 1 on, the number right-justified to column 60. Two different lists never make
+ * the same page.
+ */
+struct gellunka_paged gellunka_page(const uint8_t *trace, size_t trace_length, uint8_t *out,
+                                    size_t out_length);
 
 /*
  * The normal form of a table text: switches rising, then table order.

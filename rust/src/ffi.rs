@@ -21,6 +21,13 @@ pub struct Listed {
     pub listed: usize,
 }
 
+/// `struct gellunka_paged`.
+#[repr(C)]
+pub struct Paged {
+    pub refused: Refused,
+    pub length: usize,
+}
+
 /// `struct gellunka_normalised`.
 #[repr(C)]
 pub struct Normalised {
@@ -38,6 +45,7 @@ pub struct Replayed {
 
 extern "C" {
     fn gellunka_list_races(trace: *const u8, trace_length: usize, out: *mut u8, out_length: usize) -> Listed;
+    fn gellunka_page(trace: *const u8, trace_length: usize, out: *mut u8, out_length: usize) -> Paged;
     fn gellunka_normalise(
         tables: *const u8,
         tables_length: usize,
@@ -62,6 +70,11 @@ pub fn list_races(trace: &[u8], out: &mut [u8]) -> Listed {
     // SAFETY: each pointer and length are those of a slice, and a `&mut` slice overlaps no other. The source
     // has no `requires`, so it asks nothing else.
     unsafe { gellunka_list_races(trace.as_ptr(), trace.len(), out.as_mut_ptr(), out.len()) }
+}
+
+pub fn page(trace: &[u8], out: &mut [u8]) -> Paged {
+    // SAFETY: as above.
+    unsafe { gellunka_page(trace.as_ptr(), trace.len(), out.as_mut_ptr(), out.len()) }
 }
 
 pub fn normalise(tables: &[u8], out: &mut [u8]) -> Normalised {

@@ -1,8 +1,8 @@
 //! A proved checker for OpenFlow rehearsals.
 //!
 //! Switches and controller record their events as a trace. [`list_races`] lists the pairs of events on one
-//! switch whose order was open and matters, [`normalise`] brings the text of flow tables into a normal form, and
-//! [`replay`] tells what an order of the events does to given tables.
+//! switch whose order was open and matters, [`page`] writes that list for paper, [`normalise`] brings the text of
+//! flow tables into a normal form, and [`replay`] tells what an order of the events does to given tables.
 //!
 //! The work is done by a static library whose source (`crates/exports` of the repository) is proved against
 //! definitions of the specification, document 01 (`docs/SPECIFICATION.md`). What is said below of results,
@@ -27,6 +27,17 @@
 //! // The packet may reach switch 2 before its rule does.
 //! assert_eq!(counts.pairs_in(&list).collect::<Vec<_>>(), [(3, 4)]);
 //!
+//! let mut page = vec![0; gellunka::PAGE_ROOM];
+//! let length = gellunka::page(trace, &mut page)?;
+//! let lines = [
+//!     format!("{:<60}\n", "  3   4  2 add  pkt     10     -"),
+//!     format!("{:<9}{:>51}\n", "pairs", 2),
+//!     format!("{:<9}{:>51}\n", "ordered", 1),
+//!     format!("{:<9}{:>51}\n", "commuting", 0),
+//!     format!("{:<9}{:>51}\n", "listed", 1),
+//! ];
+//! assert_eq!(page[..length], *lines.concat().as_bytes());
+//!
 //! let refusal = gellunka::list_races(b"ev=7 do=oth in=- out=-\n", &mut list).unwrap_err();
 //! assert_eq!(refusal.reason, gellunka::Reason::EventMisnumbered);
 //! assert_eq!((refusal.reason.number(), refusal.place), (5, 0));
@@ -41,6 +52,8 @@ pub use refusal::{Reason, Refusal};
 
 /// A buffer of this length is never too short for [`list_races`].
 pub const LIST_ROOM: usize = 65_280;
+/// A buffer of this length is never too short for [`page`].
+pub const PAGE_ROOM: usize = 1_991_284;
 /// A buffer of this length is never too short for [`normalise`].
 pub const NORMAL_ROOM: usize = 26_880;
 /// A buffer of this length is never too short for the end tables of [`replay`].
@@ -93,6 +106,33 @@ pub fn list_races<'a>(trace: &'a [u8], out: &mut [u8]) -> Result<Counts, Refusal
     answer.refused.check(trace, b"")?;
     let ffi::Listed { pairs, ordered, commuting, listed, .. } = answer;
     Ok(Counts { pairs, ordered, commuting, listed })
+}
+
+/// Writes the list of a trace as a page, 60 columns wide, and gives its length, `61 * (listed + 4)`.
+///
+/// That many bytes of `out` are then the page; the bytes after them are as they were. Each listed pair is a line of
+/// 60 bytes and LF, in the list's order:
+///
+/// | columns | hold | justified |
+/// |---|---|---|
+/// | 1 to 3 | the lower event | right |
+/// | 5 to 7 | the higher event | right |
+/// | 9 and 10 | the switch | right |
+/// | from 12 | the `do` word of the lower event | left |
+/// | from 17 | the `do` word of the higher event | left |
+/// | 22 to 26 | the priority of the lower event, `-` where there is none | right |
+/// | 28 to 32 | the priority of the higher event, `-` where there is none | right |
+///
+/// The rest are blanks. The four counts follow, a line of 60 bytes and LF each, in the order of [`Counts`]: the
+/// name from column 1 on, the number right-justified to column 60. Two different lists never make the same page.
+///
+/// # Errors
+///
+/// Refuses by 1 to 8, then by 51, and leaves `out` as it was then.
+pub fn page<'a>(trace: &'a [u8], out: &mut [u8]) -> Result<usize, Refusal<'a>> {
+    let answer = ffi::page(trace, out);
+    answer.refused.check(trace, b"")?;
+    Ok(answer.length)
 }
 
 /// Brings a table text into its normal form, switches rising and then table order, and gives its length.

@@ -44,6 +44,8 @@ pub enum Reason {
     AnswersShort,
     /// 41: over 512 entries are held, which cannot happen.
     TooManyEntries,
+    /// 51: the page's buffer is too short; the place is the number of bytes needed.
+    PageShort,
 }
 
 /// A refusal: why, where, and the refused line.
@@ -60,7 +62,7 @@ pub struct Refusal<'a> {
 }
 
 impl Reason {
-    const ALL: [(Reason, usize, &'static str); 20] = [
+    const ALL: [(Reason, usize, &'static str); 21] = [
         (Reason::TraceTooLong, 1, "trace over 65,535 bytes"),
         (Reason::TraceUnended, 2, "last byte of the trace is not LF"),
         (Reason::TraceTooManyLines, 3, "trace over 256 lines"),
@@ -81,6 +83,7 @@ impl Reason {
         (Reason::TablesShort, 32, "tables buffer too short"),
         (Reason::AnswersShort, 33, "answers buffer too short"),
         (Reason::TooManyEntries, 41, "over 512 entries held"),
+        (Reason::PageShort, 51, "page buffer too short"),
     ];
 
     /// Document 01's number.

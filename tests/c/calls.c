@@ -46,6 +46,33 @@ static void list(void) {
     expect(a.refused.number == 2 && a.refused.place == 0, "a trace whose last byte is not LF");
 }
 
+static int all_are(const uint8_t *from, size_t length, uint8_t byte) {
+    while (length > 0 && from[length - 1] == byte) {
+        length--;
+    }
+    return length == 0;
+}
+
+static void page(void) {
+    static uint8_t out[GELLUNKA_PAGE_ROOM];
+    char expected[5 * 61 + 1];
+    size_t needed =
+        (size_t)snprintf(expected, sizeof expected, "%-60s\n%-9s%51d\n%-9s%51d\n%-9s%51d\n%-9s%51d\n",
+                         "  3   4  2 add  pkt     10     -", "pairs", 2, "ordered", 1, "commuting", 0, "listed", 1);
+    memset(out, 9, sizeof out);
+    struct gellunka_paged a = gellunka_page(bytes(TRACE), strlen(TRACE), out, needed - 1);
+    expect(a.refused.number == 51 && a.refused.place == 5 * 61 && a.length == 0, "a short page");
+    a = gellunka_page(bytes(TRACE), strlen(TRACE) - 1, out, sizeof out);
+    expect(a.refused.number == 2 && a.refused.place == 0 && a.length == 0, "a trace whose last byte is not LF");
+    a = gellunka_page(bytes(BAD), strlen(BAD), out, 0);
+    expect(a.refused.number == 4 && a.refused.start == 0 && a.refused.length == 4, "a malformed trace");
+    expect(all_are(out, sizeof out, 9), "a refusal leaves the page's buffer as it was");
+    a = gellunka_page(bytes(TRACE), strlen(TRACE), out, sizeof out);
+    expect(a.refused.number == 0 && a.length == needed, "the trace is accepted");
+    expect(memcmp(out, expected, needed) == 0, "the page's bytes");
+    expect(all_are(out + needed, sizeof out - needed, 9), "the bytes past the page");
+}
+
 static void normalise(void) {
     uint8_t out[256];
     struct gellunka_normalised a = gellunka_normalise(bytes(TABLES), strlen(TABLES), out, sizeof out);
@@ -72,6 +99,7 @@ static void replay(void) {
 
 int main(void) {
     list();
+    page();
     normalise();
     replay();
     printf(failures == 0 ? "C calls: ok\n" : "C calls: failed\n");

@@ -15,7 +15,7 @@ pub mod text;
 pub mod tree;
 
 use notation::{Case, Kind, Reader};
-use reference::output::{normalised, racelist, replayed};
+use reference::output::{normalised, racelist, racepage, replayed};
 use std::path::Path;
 use tree::{Content, File};
 
@@ -78,8 +78,10 @@ impl Vectors {
         let arguments = self.replay_trace.iter().map(|case| case.name.clone() + "\n");
         files.push(stored("replay_trace", "args", arguments.collect::<String>().into_bytes()));
         let trace = text_of(&self.list_test, "packet_early");
-        files.push(stored("racelist", "stdout", racelist(&trace)));
-        files.push(stored("racelist", "stdin", trace));
+        for (crate_name, output) in [("racelist", racelist(&trace)), ("racepage", racepage(&trace))] {
+            files.push(stored(crate_name, "stdout", output));
+            files.push(stored(crate_name, "stdin", trace.clone()));
+        }
         let tables = text_of(&self.tables_test, "hall_typed_anew");
         files.push(stored("normalise", "stdout", normalised(&tables)));
         files.push(stored("normalise", "stdin", tables));
@@ -87,6 +89,8 @@ impl Vectors {
             let named = cases.iter().filter(|case| case.kind == Kind::Named);
             files.extend(named.map(|case| example(crate_name, case)));
         }
+        let rehearsals = self.list_test.iter().filter(|case| case.kind == Kind::Named);
+        files.extend(rehearsals.map(example_page));
         files
     }
 
@@ -145,4 +149,11 @@ fn example(crate_name: &str, case: &Case) -> File {
     let path = format!("examples/{}", case.name);
     let target = format!("../crates/{crate_name}/data/{}", case.name);
     File { path, title: case.title.clone(), content: Content::Link(target) }
+}
+
+/// The page of a trace among the examples.
+fn example_page(case: &Case) -> File {
+    let title = format!("the page of {}", case.name);
+    let path = format!("examples/{}.page", case.name);
+    File { path, title, content: Content::Bytes(racepage(&case.bytes())) }
 }

@@ -81,12 +81,28 @@ pub fn list(trace: &[u8], room: usize) -> Answer<(reference::Counts, Vec<u8>)> {
     Ok((plain.expect("not refused"), theirs.into_bytes()))
 }
 
+/// The page call of both on a trace and a buffer of so many bytes: the page.
+pub fn page(trace: &[u8], room: usize) -> Answer<Vec<u8>> {
+    written("page call", trace, room, gellunka::page, reference::page)
+}
+
 /// The normaliser of both on a table text and a buffer of so many bytes: the normal text.
 pub fn normalise(tables: &[u8], room: usize) -> Answer<Vec<u8>> {
+    written("normaliser", tables, room, gellunka::normalise, reference::normalise)
+}
+
+/// A call of both from one text to another: what they wrote.
+fn written<'a>(
+    call: &str,
+    input: &'a [u8],
+    room: usize,
+    proved: fn(&'a [u8], &mut [u8]) -> Result<usize, gellunka::Refusal<'a>>,
+    plain: fn(&'a [u8], &mut [u8]) -> Result<usize, reference::Refusal<'a>>,
+) -> Answer<Vec<u8>> {
     let (mut ours, mut theirs) = (Buffer::new(room), Buffer::new(room));
-    let proved = gellunka::normalise(tables, ours.bytes()).map_err(|r| from_library(&r, b"", tables));
-    let expected = reference::normalise(tables, theirs.bytes()).map_err(|r| from_reference(&r, b"", tables));
-    let show = || format!("normaliser, buffer of {room} bytes\n{}", text("tables", tables));
+    let proved = proved(input, ours.bytes()).map_err(|r| from_library(&r, input, input));
+    let expected = plain(input, theirs.bytes()).map_err(|r| from_reference(&r, input, input));
+    let show = || format!("{call}, buffer of {room} bytes\n{}", text("input", input));
     same(&proved, &expected, show);
     same_buffers(&ours, &theirs, show);
     let length = expected?;

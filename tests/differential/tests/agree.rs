@@ -7,13 +7,15 @@ use cases::print::{tables_text, trace_text};
 use cases::tables::any_tables;
 use cases::traces::{any_length, any_trace};
 use cases::{lengths_around, Random, World};
-use differential::{list, normalise, replay, Answer};
-use reference::happens_before;
+use differential::{list, normalise, page, replay, Answer};
 use reference::races::racing_pairs;
 use reference::replay::recorded_order;
+use reference::{happens_before, Counts};
 use std::collections::BTreeMap;
 
 const LIST_ROOM: usize = 65_280;
+/// Room for the page of any seven events.
+const SHORT_PAGE: usize = 61 * 25;
 const ROOMS: [usize; 2] = [53_760, 7_168];
 
 /// How often each refusal was met; 0 stands for none.
@@ -34,35 +36,88 @@ impl Met {
     }
 }
 
+/// The counts and the list of a valid trace.
+fn listed(trace: &[u8]) -> (Counts, Vec<u8>) {
+    let (counts, mut pairs) = list(trace, LIST_ROOM).expect("a valid trace");
+    pairs.truncate(2 * counts.listed);
+    (counts, pairs)
+}
+
+/// The counts and the list that a page holds.
+fn read_back(page: &[u8]) -> (Counts, Vec<u8>) {
+    let lines: Vec<&str> = std::str::from_utf8(page).expect("a page is ASCII").lines().collect();
+    let (pairs, counts) = lines.split_at(lines.len() - 4);
+    let events = pairs.iter().flat_map(|line| [&line[0..3], &line[4..7]]);
+    let number = |line: &str, name: &str| line.strip_prefix(name)?.trim_start().parse().ok();
+    let count = |at: usize, name: &str| number(counts[at], name).expect("a count");
+    let counts = Counts {
+        pairs: count(0, "pairs"),
+        ordered: count(1, "ordered"),
+        commuting: count(2, "commuting"),
+        listed: count(3, "listed"),
+    };
+    (counts, events.map(|event| event.trim_start().parse().expect("an event")).collect())
+}
+
 #[test]
-fn lists_of_valid_traces() {
+fn lists_and_pages_of_valid_traces() {
     let mut random = Random::from_seed(101);
     for _ in 0..1_000 {
         let world = World::any(&mut random);
         let length = any_length(&mut random);
         let trace = trace_text(&any_trace(&mut random, world, length));
-        let (counts, _) = list(&trace, LIST_ROOM).expect("a valid trace");
-        let needed = 2 * counts.listed;
-        for room in lengths_around(needed) {
+        let (counts, pairs) = listed(&trace);
+        for room in lengths_around(pairs.len()) {
             let answer = list(&trace, room);
-            assert_eq!(answer.is_ok(), room >= needed);
+            assert_eq!(answer.is_ok(), room >= pairs.len());
         }
+        let lines = counts.listed + 4;
+        for room in lengths_around(61 * lines).into_iter().chain([60 * lines]) {
+            let answer = page(&trace, room);
+            assert_eq!(answer.is_ok(), room >= 61 * lines);
+        }
+        let made = page(&trace, 61 * lines).expect("a valid trace");
+        assert_eq!(read_back(&made), (counts, pairs));
     }
 }
 
 #[test]
-fn lists_of_damaged_traces() {
+fn lists_and_pages_of_damaged_traces() {
     let mut random = Random::from_seed(102);
-    let mut met = Met::default();
+    let [mut met, mut met_by_page] = [(); 2].map(|()| Met::default());
     for _ in 0..10_000 {
         let world = World::any(&mut random);
         let length = if random.one_in(20) { any_length(&mut random) } else { random.below(8) };
         let trace = trace_text(&any_trace(&mut random, world, length));
-        met.note(&list(&damaged(&mut random, &trace), LIST_ROOM));
+        let fault = damaged(&mut random, &trace);
+        met.note(&list(&fault, LIST_ROOM));
+        met_by_page.note(&page(&fault, SHORT_PAGE));
         let room = random.below(4);
-        met.note(&list(&damaged(&mut random, &trace), room));
+        let fault = damaged(&mut random, &trace);
+        met.note(&list(&fault, room));
+        // Around the shortest page, and around that of one pair.
+        met_by_page.note(&page(&fault, 242 + room));
+        met_by_page.note(&page(&fault, 303 + room));
     }
     met.assert_all(&[0, 1, 2, 3, 4, 5, 6, 7, 8, 31], 50);
+    met_by_page.assert_all(&[0, 1, 2, 3, 4, 5, 6, 7, 8, 51], 50);
+}
+
+/// On short traces, many of which make the same page.
+#[test]
+fn two_different_lists_never_make_the_same_page() {
+    let mut random = Random::from_seed(109);
+    let mut lists = BTreeMap::new();
+    for _ in 0..5_000 {
+        let world = World { wide: false, switches: random.pick(&[1, 2]) };
+        let length = random.below(7);
+        let trace = trace_text(&any_trace(&mut random, world, length));
+        let list = listed(&trace);
+        let page = page(&trace, SHORT_PAGE).expect("a valid trace");
+        let known = lists.entry(page).or_insert_with(|| list.clone());
+        assert_eq!(*known, list);
+    }
+    assert!((500..4_500).contains(&lists.len()), "{} pages", lists.len());
 }
 
 #[test]

@@ -3,7 +3,7 @@
 
 use cases::{tables, traces};
 use differential::{program, Folder};
-use reference::output::{normalised, racelist, replayed};
+use reference::output::{normalised, racelist, racepage, replayed};
 use std::fs::File;
 use std::io::Write;
 use std::path::Path;
@@ -21,9 +21,14 @@ fn says(output: &Output, begins: &str) {
     assert_eq!(said.lines().count(), 1, "{said:?}");
 }
 
-/// The two programs that read standard input, each with an input that is accepted and one that is refused.
-const READING: [(&str, &[u8]); 4] =
-    [("racelist", TRACE), ("racelist", b"x\n"), ("normalise", TABLES), ("normalise", b"x\n")];
+/// The programs that read standard input.
+const READING: [&str; 3] = ["racelist", "racepage", "normalise"];
+
+/// Each of them with an input that is accepted and with one that is refused.
+fn readings() -> impl Iterator<Item = (&'static str, &'static [u8])> {
+    let accepted = |name| if name == "normalise" { TABLES } else { TRACE };
+    READING.into_iter().flat_map(move |name| [(name, accepted(name)), (name, b"x\n")])
+}
 
 fn run(command: &mut Command, input: Stdio, output: Stdio) -> Output {
     let running = command.stdin(input).stdout(output).stderr(Stdio::piped()).spawn();
@@ -45,7 +50,7 @@ fn shell(redirected: &str, command: &Command) -> Output {
 fn a_full_disk_is_said() {
     let folder = Folder::new("full");
     let full = || Stdio::from(File::options().write(true).open("/dev/full").expect("/dev/full"));
-    for (name, input) in READING {
+    for (name, input) in readings() {
         let input = file(&folder.file("input", input));
         says(&run(&mut program(name), input, full()), "standard output: No space left");
     }
@@ -59,7 +64,7 @@ fn a_full_disk_is_said() {
 #[test]
 fn a_closed_output_is_said() {
     let folder = Folder::new("closed");
-    for (name, input) in READING {
+    for (name, input) in readings() {
         let input = folder.file("input", input);
         let output = shell(&format!("<\"{}\" >&-", input.display()), &program(name));
         says(&output, "standard output: Bad file descriptor");
@@ -72,7 +77,7 @@ fn a_closed_output_is_said() {
 #[test]
 fn an_input_that_cannot_be_read_is_said() {
     let folder = Folder::new("unread");
-    for name in ["racelist", "normalise"] {
+    for name in READING {
         let directory = run(&mut program(name), file(&folder.path("")), Stdio::piped());
         says(&directory, "standard input: Is a directory");
         says(&shell("<&-", &program(name)), "standard input: Bad file descriptor");
@@ -95,7 +100,7 @@ fn an_input_that_cannot_be_read_is_said() {
 
 #[test]
 fn missing_and_surplus_arguments_are_said() {
-    for name in ["racelist", "normalise"] {
+    for name in READING {
         let output = run(program(name).arg("trace"), Stdio::null(), Stdio::piped());
         says(&output, &format!("usage: {name} < "));
     }
@@ -117,9 +122,11 @@ fn in_parts(mut to: impl Write, text: &[u8]) {
 #[test]
 fn an_input_may_come_in_parts() {
     let (trace, tables) = (traces::long_adds(), tables::reversed());
-    for (name, input, expected) in
-        [("racelist", &trace, racelist(&trace)), ("normalise", &tables, normalised(&tables))]
-    {
+    for (name, input, expected) in [
+        ("racelist", &trace, racelist(&trace)),
+        ("racepage", &trace, racepage(&trace)),
+        ("normalise", &tables, normalised(&tables)),
+    ] {
         let mut running =
             program(name).stdin(Stdio::piped()).stdout(Stdio::piped()).spawn().expect("the program starts");
         in_parts(running.stdin.take().expect("piped"), input);

@@ -1,8 +1,9 @@
 //! Texts at the limits, and the worst cases.
 
 use cases::{lengths_around, tables, traces};
-use differential::{list, normalise, replay};
+use differential::{list, normalise, page, replay};
 use reference::replay::recorded_order;
+use std::collections::BTreeSet;
 
 fn refused<T: std::fmt::Debug>(answer: differential::Answer<T>) -> (usize, usize) {
     let refused = answer.unwrap_err();
@@ -17,6 +18,7 @@ fn bytes_and_lines() {
                 let mut text = vec![fill; length];
                 text[length - 1] = last;
                 let _ = list(&text, 0);
+                let _ = page(&text, 0);
                 let _ = normalise(&text, 0);
                 let _ = replay(&text, &text, &[], [0, 0]);
                 let _ = replay(b"", &text, &[], [0, 0]);
@@ -26,6 +28,8 @@ fn bytes_and_lines() {
     let oth = |n: usize| (0..n).map(|i| format!("ev={i} do=oth in=- out=-\n")).collect::<String>();
     assert!(list(oth(256).as_bytes(), 0).is_ok());
     assert_eq!(refused(list(oth(257).as_bytes(), 0)), (3, 0));
+    assert_eq!(refused(page(oth(256).as_bytes(), 243)), (51, 244));
+    assert_eq!(refused(page(oth(257).as_bytes(), 243)), (3, 0));
     // The longest accepted lines, and a line that fills the text up to its last byte.
     let mut text = oth(255).into_bytes();
     text.resize(65_534, b'0');
@@ -43,6 +47,7 @@ fn single_bytes_and_pairs_of_bytes() {
     for a in 0..=255u8 {
         for text in [&[a][..], &[a, b'\n']] {
             let _ = list(text, 8);
+            let _ = page(text, 8);
             let _ = normalise(text, 8);
             let _ = replay(text, b"", text, [8, 8]);
             let _ = replay(b"", text, b"", [8, 8]);
@@ -71,8 +76,11 @@ fn every_byte_of_every_kind_of_line() {
     ];
     for line in lines {
         let text = format!("{line}\n").into_bytes();
-        assert!(list(&text, 0).is_ok());
-        each_change(&text, |changed| drop(list(changed, 0)));
+        assert!(list(&text, 0).is_ok() && page(&text, 244).is_ok());
+        each_change(&text, |changed| {
+            let _ = list(changed, 0);
+            let _ = page(changed, 244);
+        });
     }
     let text = format!("sw=1 prio=10 {matching} act=p2\n").into_bytes();
     assert!(normalise(&text, 1_000).is_ok());
@@ -110,6 +118,10 @@ fn worst_cases() {
         for room in lengths_around(2 * counts.listed) {
             let _ = list(trace, room);
         }
+        let lines = counts.listed + 4;
+        for room in lengths_around(61 * lines).into_iter().chain([60 * lines]) {
+            let _ = page(trace, room);
+        }
         for tables in [&b""[..], &tables::reversed(), &tables::sorted()] {
             let written = replay(trace, tables, &recorded_order(256), [53_760, 7_168]).expect("all valid");
             for room in lengths_around(written.tables.len()) {
@@ -122,6 +134,59 @@ fn worst_cases() {
     }
     let normal = normalise(&tables::reversed(), 65_535).expect("valid tables");
     assert_eq!(normal, tables::sorted());
+}
+
+/// The four last lines of a page.
+fn count_lines(counts: [usize; 4]) -> Vec<u8> {
+    let names = ["pairs    ", "ordered  ", "commuting", "listed   "];
+    let line = |(name, count): (&str, usize)| format!("{name}{count:>51}\n");
+    names.into_iter().zip(counts).map(line).collect::<String>().into_bytes()
+}
+
+#[test]
+fn the_shortest_and_the_longest_page() {
+    for trace in [&b""[..], b"ev=0 do=bar in=- out=- sw=15\n"] {
+        assert_eq!(page(trace, 244), Ok(count_lines([0; 4])));
+        assert_eq!(refused(page(trace, 243)), (51, 244));
+    }
+    let (trace, room) = (traces::all_racing(), gellunka::PAGE_ROOM);
+    let longest = page(&trace, room).expect("a valid trace");
+    assert_eq!(longest.len(), room);
+    assert!(longest.ends_with(&count_lines([32_640, 0, 0, 32_640])));
+    assert_eq!(refused(page(&trace, room - 1)), (51, room));
+}
+
+/// Every two words whose events can race, behind some other events.
+#[test]
+fn every_two_words_on_a_page() {
+    let any = "port=* src=00000000/0 dst=00000000/0 proto=* sport=* dport=*";
+    let items = |number: usize, prio: u16| match number % 7 {
+        0 => ("pkt", "port=65535 src=ffffffff dst=ffffffff proto=255 sport=65535 dport=65535".to_owned()),
+        5 => ("dels", format!("prio={prio} {any}")),
+        6 => ("deln", any.to_owned()),
+        write => (["add", "addc", "mods", "modn"][write - 1], format!("prio={prio} {any} act=p{number}")),
+    };
+    for (switch, prio) in [(0, 0), (9, 9), (10, 10), (11, 999), (14, 10_000), (15, 65_535)] {
+        for others in [0, 9, 91, 242] {
+            let event = |number: usize| {
+                let (word, items) = items(number, prio);
+                format!("ev={} do={word} in=- out=- sw={switch} {items}\n", others + number)
+            };
+            let other = |number: usize| format!("ev={number} do=oth in=- out=-\n");
+            let trace: String = (0..others).map(other).chain((0..14).map(event)).collect();
+            let page = page(trace.as_bytes(), 61 * 88).expect("a valid trace");
+            let lines: Vec<&[u8]> = page.chunks(61).collect();
+            let words: BTreeSet<&[u8]> = lines[..84].iter().map(|line| &line[11..20]).collect();
+            assert_eq!(words.len(), 7 * 7 - 5, "all but packets and packets, deletes and deletes");
+            let pair = |low: usize, high: usize, rest: String| {
+                format!("{:>3} {:>3} {switch:>2} {rest:<49}\n", others + low, others + high).into_bytes()
+            };
+            assert_eq!(lines[0], pair(0, 1, format!("pkt  add      - {prio:>5}")));
+            assert_eq!(lines[5], pair(0, 6, "pkt  deln     -     -".to_owned()));
+            assert_eq!(lines[83], pair(11, 13, format!("modn deln {prio:>5}     -")));
+            assert_eq!(lines[84..].concat(), count_lines([91, 0, 7, 84]));
+        }
+    }
 }
 
 /// The most entries that a packet can fit at one priority, and the longest answers.

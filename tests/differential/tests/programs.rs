@@ -1,4 +1,4 @@
-//! What the project's three programs print, against the reference.
+//! What the project's programs print, against the reference.
 
 use cases::damage::damaged;
 use cases::orders::any_damaged;
@@ -7,7 +7,7 @@ use cases::tables::any_tables;
 use cases::traces::{any_length, any_trace};
 use cases::{tables, traces, Random, World};
 use differential::{program, Folder};
-use reference::output::{normalised, racelist, replayed};
+use reference::output::{normalised, racelist, racepage, replayed};
 use reference::replay::recorded_order;
 use std::io::Write;
 use std::process::Stdio;
@@ -32,9 +32,12 @@ fn check(name: &str, input: &[u8], printed: &[u8], expected: &[u8]) {
 }
 
 #[test]
-fn lists() {
+fn lists_and_pages() {
     let mut random = Random::from_seed(201);
-    let check = |trace: &[u8]| check("racelist", trace, &printed("racelist", trace), &racelist(trace));
+    let check = |trace: &[u8]| {
+        check("racelist", trace, &printed("racelist", trace), &racelist(trace));
+        check("racepage", trace, &printed("racepage", trace), &racepage(trace));
+    };
     for trace in [traces::all_racing(), traces::token_chain(), traces::barriers(), Vec::new()] {
         check(&trace);
     }

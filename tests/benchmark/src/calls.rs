@@ -15,6 +15,7 @@ pub type Call<'a> = Box<dyn FnMut() + 'a>;
 pub fn compare(row: &Row) {
     let call = match row.input {
         Input::List(_) => "list",
+        Input::Page(_) => "page",
         Input::Normalise(_) => "normalise",
         Input::Replay(..) => "replay",
     };
@@ -25,25 +26,24 @@ pub fn compare(row: &Row) {
 /// The call of the proved library and that of the peer.
 pub fn sides(input: &Input) -> [Call<'_>; 2] {
     match input {
-        Input::List(trace) => list(trace),
-        Input::Normalise(tables) => normalise(tables),
+        Input::List(trace) => one_text(trace, 65_280, gellunka::list_races, reference::list),
+        Input::Page(trace) => one_text(trace, reference::PAGE_ROOM, gellunka::page, reference::page),
+        Input::Normalise(tables) => one_text(tables, 65_535, gellunka::normalise, reference::normalise),
         Input::Replay(trace, tables) => replay(trace, tables),
     }
 }
 
-fn list(trace: &[u8]) -> [Call<'_>; 2] {
-    let [mut ours, mut theirs] = [(); 2].map(|()| vec![0; 65_280]);
+/// A call that takes one text and writes into one buffer of so many bytes.
+fn one_text<'a, T: 'a, U: 'a>(
+    input: &'a [u8],
+    room: usize,
+    proved: fn(&'a [u8], &mut [u8]) -> Result<T, gellunka::Refusal<'a>>,
+    peer: fn(&'a [u8], &mut [u8]) -> Result<U, reference::Refusal<'a>>,
+) -> [Call<'a>; 2] {
+    let [mut ours, mut theirs] = [(); 2].map(|()| vec![0; room]);
     [
-        Box::new(move || used(gellunka::list_races(black_box(trace), &mut ours))),
-        Box::new(move || used(reference::list(black_box(trace), &mut theirs))),
-    ]
-}
-
-fn normalise(tables: &[u8]) -> [Call<'_>; 2] {
-    let [mut ours, mut theirs] = [(); 2].map(|()| vec![0; 65_535]);
-    [
-        Box::new(move || used(gellunka::normalise(black_box(tables), &mut ours))),
-        Box::new(move || used(reference::normalise(black_box(tables), &mut theirs))),
+        Box::new(move || used(proved(black_box(input), &mut ours))),
+        Box::new(move || used(peer(black_box(input), &mut theirs))),
     ]
 }
 

@@ -29,6 +29,7 @@ impl Processes {
     pub fn compare(&self, row: &Row) {
         match &row.input {
             Input::List(trace) => self.by_turns("racelist", "list", row.name, &[trace]),
+            Input::Page(trace) => self.by_turns("racepage", "page", row.name, &[trace]),
             Input::Normalise(tables) => self.by_turns("normalise", "normalise", row.name, &[tables]),
             Input::Replay(trace, tables) => {
                 self.by_turns("replay_trace", "replay", row.name, &[trace, tables]);

@@ -14,6 +14,8 @@ pub struct Row {
 pub enum Input {
     /// `list` of a trace.
     List(Vec<u8>),
+    /// `page` of a trace.
+    Page(Vec<u8>),
     /// `normalise` of a table text.
     Normalise(Vec<u8>),
     /// `replay` of a trace from a table text, in the recorded order.
@@ -23,6 +25,7 @@ pub enum Input {
 /// All rows.
 pub fn rows() -> Vec<Row> {
     let list = |name, trace| Row { name, input: Input::List(trace) };
+    let page = |name, trace| Row { name, input: Input::Page(trace) };
     let normalise = |name, tables| Row { name, input: Input::Normalise(tables) };
     let replay = |name, trace| Row { name, input: Input::Replay(trace, tables::reversed()) };
     vec![
@@ -41,5 +44,8 @@ pub fn rows() -> Vec<Row> {
         replay("256 `addc` onto 256 entries", traces::long_checked_adds()),
         replay("256 `modn` of 256 entries", traces::all_racing_modifies()),
         replay("256 `pkt` onto 256 entries", traces::packets_to_the_last()),
+        page("empty input (floor)", Vec::new()),
+        page("256 adds of one key: 32,640 pairs listed", traces::all_racing()),
+        page("256 modifies of one key: 32,640 pairs listed", traces::all_racing_modifies()),
     ]
 }

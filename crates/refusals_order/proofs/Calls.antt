@@ -17,6 +17,8 @@ use Rattle.tables_text.proofs.Meaning.{tables-accepted-iff}
 use Rattle.tables_normal.specs.Normal.{normalText, normalised}
 use Rattle.list_pairs.specs.List.{listOf, pairBytes, listingOf}
 use Rattle.list_call.specs.Races.{listRaces}
+use Rattle.page_text.specs.Page.{pageText}
+use Rattle.page_call.specs.Paged.{paged}
 use Rattle.order_meaning.specs.Tables.{endTables}
 use Rattle.rows.specs.Rows.{tablesOf}
 use Rattle.order_check.specs.Schedule.{checkOrder}
@@ -28,7 +30,7 @@ use Rattle.refusals_order.specs.Causes.{Cause, FirstOf, Of}
 use Rattle.refusals_order.specs.Traces.{traceCauses}
 use Rattle.refusals_order.specs.Tables.{tablesCauses}
 use Rattle.refusals_order.specs.Orders.{incompleteCause, earlyPutCause, orderCauses}
-use Rattle.refusals_order.specs.Calls.{shortCause, listCauses, normalCauses, OfBoth, heldCause, endShortCause, answersShortCause, replayCauses}
+use Rattle.refusals_order.specs.Calls.{shortCause, listCauses, pageCauses, normalCauses, OfBoth, heldCause, endShortCause, answersShortCause, replayCauses}
 use Rattle.refusals_order.proofs.Causes.{Tells, tells-same, then-tells, when-tells, short-tells, never-tells, of-said}
 use Rattle.refusals_order.proofs.Traces.{trace-tells}
 use Rattle.refusals_order.proofs.Tables.{tables-tell}
@@ -53,6 +55,11 @@ then-short x Says iff cs t room refusal text value =
 pub list-refused-iff : (trace : List ℕ) (room : ℕ) (r : Refusal) → (listRaces trace room ≡ inl r) ↔ FirstOf (listCauses trace room) r
 unfolding listRaces listCauses
 list-refused-iff trace room = then-short (readTrace trace) (IsTrace trace) (trace-accepted-iff trace) (traceCauses trace) (trace-tells trace) room Refusal.ListShort (λ es. pairBytes (listOf es)) listingOf
+
+-- THE refusal of the page: the first of 1 to 8, 51 that applies
+pub page-refused-iff : (trace : List ℕ) (room : ℕ) (r : Refusal) → (paged trace room ≡ inl r) ↔ FirstOf (pageCauses trace room) r
+unfolding paged pageCauses
+page-refused-iff trace room = then-short (readTrace trace) (IsTrace trace) (trace-accepted-iff trace) (traceCauses trace) (trace-tells trace) room Refusal.PageShort pageText pageText
 
 -- THE refusal of the normaliser: the first of 11 to 16, 32 that applies
 pub normal-refused-iff : (tables : List ℕ) (room : ℕ) (r : Refusal) → (normalised tables room ≡ inl r) ↔ FirstOf (normalCauses tables room) r

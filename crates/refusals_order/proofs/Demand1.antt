@@ -16,6 +16,8 @@ use Rattle.tables_text.proofs.Meaning.{tables-accepted-iff}
 use Rattle.tables_normal.specs.Normal.{normalText, normalised, normalAnswer}
 use Rattle.list_pairs.specs.List.{Listing, listOf, pairBytes, countsOf, listingOf}
 use Rattle.list_call.specs.Races.{listRaces, listAnswer, listOut}
+use Rattle.page_text.specs.Page.{pageText}
+use Rattle.page_call.specs.Paged.{paged, pageAnswer}
 use Rattle.replay_texts.specs.Writing.{Replayed, replayAnswer, tablesOut, answersOut}
 use Rattle.order_meaning.specs.Tables.{endTables}
 use Rattle.rows.specs.Rows.{tablesOf}
@@ -23,10 +25,10 @@ use Rattle.order_check.specs.Schedule.{checkOrder}
 use Rattle.order_rows.specs.Runs.{operationAt}
 use Rattle.replay_call.specs.Replay.{entriesHeld, textsOf, replayed}
 use Rattle.refusals_order.specs.Types.{Refusal, Event, Row, ListAnswer}
-use Rattle.refusals_order.specs.Calls.{listCauses, normalCauses, replayCauses}
-use Rattle.refusals_order.specs.Demand1.{ListRefused, ListDone, NormalRefused, NormalDone, ReplayRefused, ReplayDone, Demand1}
+use Rattle.refusals_order.specs.Calls.{listCauses, pageCauses, normalCauses, replayCauses}
+use Rattle.refusals_order.specs.Demand1.{ListRefused, ListDone, PageRefused, PageDone, NormalRefused, NormalDone, ReplayRefused, ReplayDone, Demand1}
 use Rattle.refusals_order.proofs.Causes.{handed-none}
-use Rattle.refusals_order.proofs.Calls.{follows, list-refused-iff, normal-refused-iff, replay-refused-iff}
+use Rattle.refusals_order.proofs.Calls.{follows, list-refused-iff, page-refused-iff, normal-refused-iff, replay-refused-iff}
 
 -- ---- what an accepted input hands on
 module _ {A B : Type 0} (x : Checked A) (room : ℕ) (text : A → List ℕ) (refusal : ℕ → Refusal) (value : A → B) {b : B} where
@@ -38,6 +40,10 @@ module _ {A B : Type 0} (x : Checked A) (room : ℕ) (text : A → List ℕ) (re
 listed-on : (trace : List ℕ) (room : ℕ) (l : Listing) → listRaces trace room ≡ inr l → (es : List Event) × (readTrace trace ≡ inr es) × (listingOf es ≡ l)
 unfolding listRaces
 listed-on trace room l h = fits-on (readTrace trace) room (λ es. pairBytes (listOf es)) Refusal.ListShort listingOf h
+
+page-on : (trace : List ℕ) (room : ℕ) (t : List ℕ) → paged trace room ≡ inr t → (es : List Event) × (readTrace trace ≡ inr es) × (pageText es ≡ t)
+unfolding paged
+page-on trace room t h = fits-on (readTrace trace) room pageText Refusal.PageShort pageText h
 
 normal-on : (tables : List ℕ) (room : ℕ) (t : List ℕ) → normalised tables room ≡ inr t → (rs : List Row) × (readTables tables ≡ inr rs) × (normalText rs ≡ t)
 unfolding normalised
@@ -95,6 +101,27 @@ list-does trace old = go (listRaces trace (length old)) refl
           bytes = bytes-of trace (length old) es g old;
         })
 
+page-does : (trace old : List ℕ) → PageRefused trace old ⊎ PageDone trace old
+page-does trace old = go (paged trace (length old)) refl
+  where
+    go : (y : Checked (List ℕ)) → paged trace (length old) ≡ y → PageRefused trace old ⊎ PageDone trace old
+    go (inl r) e = inl (record {
+      refusal = r;
+      first = page-refused-iff trace (length old) r .0 e;
+      returned = ap pageAnswer e;
+      unchanged = ap (λ y. written y old) e;
+    })
+    go (inr t) e =
+        let (es, h, f) = page-on trace (length old) t e in
+        let g : paged trace (length old) ≡ inr (pageText es) = e ∙ ap inr (sym f) in
+        inr (record {
+          none = handed-none (paged trace (length old)) (pageCauses trace (length old)) (page-refused-iff trace (length old)) .0 (t, e);
+          events = es;
+          accepted = trace-accepted-iff trace es .0 h;
+          returned = ap pageAnswer g;
+          bytes = ap (λ y. written y old) g;
+        })
+
 normal-does : (tables old : List ℕ) → NormalRefused tables old ⊎ NormalDone tables old
 normal-does tables old = go (normalised tables (length old)) refl
   where
@@ -146,4 +173,4 @@ replay-does trace tables o old old' = go (replayed trace tables o (length old) (
         })
 
 pub demand-1 : Demand1
-demand-1 = record { list = list-does; normalise = normal-does; replay = replay-does }
+demand-1 = record { list = list-does; page = page-does; normalise = normal-does; replay = replay-does }

@@ -7,6 +7,7 @@ use Rattle.tables_text.specs.Meaning.{IsTables}
 use Rattle.rows.specs.Rows.{tablesOf}
 use Rattle.tables_normal.specs.Normal.{normalText, tablesText}
 use Rattle.list_pairs.specs.List.{listOf, pairBytes}
+use Rattle.page_text.specs.Page.{pageText}
 use Rattle.order_meaning.specs.Tables.{endTables}
 use Rattle.order_rows.specs.Runs.{operationAt}
 use Rattle.replay_call.specs.Replay.{entriesHeld, answerLines}
@@ -16,13 +17,17 @@ use Rattle.refusals_order.specs.Traces.{traceCauses}
 use Rattle.refusals_order.specs.Tables.{tablesCauses}
 use Rattle.refusals_order.specs.Orders.{incompleteCause, earlyPutCause}
 
--- 31, 32, 33: a buffer is too short for a text; the bytes needed
+-- 31, 32, 33, 51: a buffer is too short for a text; the bytes needed
 abbrev pub shortCause : ℕ → (ℕ → Refusal) → List ℕ → Cause
 shortCause room refusal text = When (room < length text) (refusal (length text))
 
 -- the list call: 1 to 8; 31
 unfoldable pub listCauses : List ℕ → ℕ → List Cause
 listCauses trace room = traceCauses trace ++ (Of (IsTrace trace) (λ es. shortCause room Refusal.ListShort (pairBytes (listOf es))) ∷ [])
+
+-- the page: 1 to 8; 51
+unfoldable pub pageCauses : List ℕ → ℕ → List Cause
+pageCauses trace room = traceCauses trace ++ (Of (IsTrace trace) (λ es. shortCause room Refusal.PageShort (pageText es)) ∷ [])
 
 -- the normaliser: 11 to 16; 32
 unfoldable pub normalCauses : List ℕ → ℕ → List Cause

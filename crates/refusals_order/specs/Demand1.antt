@@ -14,13 +14,15 @@ use Rattle.rows.specs.Rows.{tablesOf}
 use Rattle.tables_normal.specs.Normal.{normalText, tablesText, normalised, normalAnswer}
 use Rattle.list_pairs.specs.List.{listOf, pairBytes, countsOf}
 use Rattle.list_call.specs.Races.{listRaces, listAnswer, listOut}
+use Rattle.page_text.specs.Page.{pageText}
+use Rattle.page_call.specs.Paged.{paged, pageAnswer}
 use Rattle.order_meaning.specs.Tables.{endTables}
 use Rattle.order_rows.specs.Runs.{operationAt}
 use Rattle.replay_texts.specs.Writing.{replayAnswer, tablesOut, answersOut}
 use Rattle.replay_call.specs.Replay.{answerLines, replayed}
-use Rattle.refusals_order.specs.Types.{Refusal, Event, Row, ListAnswer, NormalAnswer, ReplayAnswer}
-use Rattle.refusals_order.specs.Causes.{Cause, FirstOf, NoneOf}
-use Rattle.refusals_order.specs.Calls.{listCauses, normalCauses, replayCauses}
+use Rattle.refusals_order.specs.Types.{Refusal, Event, Row, ListAnswer, NormalAnswer, PageAnswer, ReplayAnswer}
+use Rattle.refusals_order.specs.Causes.{FirstOf, NoneOf}
+use Rattle.refusals_order.specs.Calls.{listCauses, pageCauses, normalCauses, replayCauses}
 
 -- ---- the list call on a trace and a buffer
 module _ (trace old : List ℕ) where
@@ -36,6 +38,21 @@ module _ (trace old : List ℕ) where
     pub accepted : IsTrace trace events
     pub returned : listAnswer (listRaces trace (length old)) ≡ ListAnswer.Counts (countsOf events)
     pub bytes : written (listOut (listRaces trace (length old))) old ≡ startingWith (pairBytes (listOf events)) old
+
+-- ---- the page call on a trace and a buffer
+module _ (trace old : List ℕ) where
+  pub record PageRefused : Type 0 where
+    pub refusal : Refusal
+    pub first : FirstOf (pageCauses trace (length old)) refusal
+    pub returned : pageAnswer (paged trace (length old)) ≡ PageAnswer.Refused refusal
+    pub unchanged : written (paged trace (length old)) old ≡ old
+
+  pub record PageDone : Type 0 where
+    pub none : NoneOf (pageCauses trace (length old))
+    pub events : List Event
+    pub accepted : IsTrace trace events
+    pub returned : pageAnswer (paged trace (length old)) ≡ PageAnswer.Length (length (pageText events))
+    pub bytes : written (paged trace (length old)) old ≡ startingWith (pageText events) old
 
 -- ---- the normaliser on a table text and a buffer
 module _ (tables old : List ℕ) where
@@ -78,5 +95,6 @@ module _ (trace tables o old old' : List ℕ) where
 
 pub record Demand1 : Type 0 where
   pub list : (trace old : List ℕ) → ListRefused trace old ⊎ ListDone trace old
+  pub page : (trace old : List ℕ) → PageRefused trace old ⊎ PageDone trace old
   pub normalise : (tables old : List ℕ) → NormalRefused tables old ⊎ NormalDone tables old
   pub replay : (trace tables o old old' : List ℕ) → ReplayRefused trace tables o old old' ⊎ ReplayDone trace tables o old old'

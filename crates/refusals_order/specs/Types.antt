@@ -8,4 +8,5 @@ pub use Rattle.trace_events.specs.declared.event.Event.{Event}
 pub use Rattle.rows.specs.declared.row.Row.{Row}
 pub use Rattle.call_answers.specs.declared.list.ListAnswer.{ListAnswer}
 pub use Rattle.call_answers.specs.declared.normal.NormalAnswer.{NormalAnswer}
+pub use Rattle.call_answers.specs.declared.page.PageAnswer.{PageAnswer}
 pub use Rattle.call_answers.specs.declared.replay.ReplayAnswer.{ReplayAnswer}

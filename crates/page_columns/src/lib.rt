@@ -8,6 +8,7 @@ ghost use lib.ListN.{length};
 ghost use Rattle.text_numbers.specs.Print.{printNumber};
 ghost use Rattle.text_numbers.specs.Inner.{Put};
 ghost use Rattle.page_columns.specs.Columns.{blanks, right, left};
+ghost use Rattle.page_columns.specs.Inner.{digitOrBlank};
 
 // So many blanks.
 pub fn put_blanks(out: &mut [u8], at: usize, n: usize) -> usize
@@ -50,6 +51,54 @@ pub fn put_left(out: &mut [u8], at: usize, width: usize, text: &[u8]) -> usize
     let rest = left_over(width, text.len());
     let n = put_bytes(out, at, text);
     put_blanks(out, n, rest)
+}
+
+// The digit of a number at a power of ten; a blank where the number has none there.
+fn digit_or_blank(v: usize, power: usize) -> u8
+    requires { ⌜ 1 ≤ power ⌝ }
+    ensures { λ r. ⌜ r ≡ digitOrBlank v power ⌝ }
+{
+    if v < power {
+        return b' ';
+    }
+    b'0' + ((v / power) % 10) as u8
+}
+
+// A number below 100, right-justified in two columns.
+pub fn put_in_two(out: &mut [u8], at: usize, v: usize) -> usize
+    requires { ⌜ (at < 2 ^ 31) × (v < 100) ⌝ }
+    ensures { λ r. ⌜ Put (right 2 (printNumber v)) at (now (out .entry)) r (now (out .exit)) ⌝ }
+    ensures { λ r. ⌜ r ≡ at + 2 ⌝ }
+{
+    put_byte(out, at, digit_or_blank(v, 10));
+    put_byte(out, at + 1, b'0' + (v % 10) as u8);
+    at + 2
+}
+
+// A number below 1,000, right-justified in three columns.
+pub fn put_in_three(out: &mut [u8], at: usize, v: usize) -> usize
+    requires { ⌜ (at < 2 ^ 31) × (v < 1000) ⌝ }
+    ensures { λ r. ⌜ Put (right 3 (printNumber v)) at (now (out .entry)) r (now (out .exit)) ⌝ }
+    ensures { λ r. ⌜ r ≡ at + 3 ⌝ }
+{
+    put_byte(out, at, digit_or_blank(v, 100));
+    put_byte(out, at + 1, digit_or_blank(v, 10));
+    put_byte(out, at + 2, b'0' + (v % 10) as u8);
+    at + 3
+}
+
+// A number below 100,000, right-justified in five columns.
+pub fn put_in_five(out: &mut [u8], at: usize, v: usize) -> usize
+    requires { ⌜ (at < 2 ^ 31) × (v < 100000) ⌝ }
+    ensures { λ r. ⌜ Put (right 5 (printNumber v)) at (now (out .entry)) r (now (out .exit)) ⌝ }
+    ensures { λ r. ⌜ r ≡ at + 5 ⌝ }
+{
+    put_byte(out, at, digit_or_blank(v, 10000));
+    put_byte(out, at + 1, digit_or_blank(v, 1000));
+    put_byte(out, at + 2, digit_or_blank(v, 100));
+    put_byte(out, at + 3, digit_or_blank(v, 10));
+    put_byte(out, at + 4, b'0' + (v % 10) as u8);
+    at + 5
 }
 
 // A number, right-justified in so many columns.

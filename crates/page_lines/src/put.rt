@@ -2,6 +2,9 @@
 use crate::line::PairLine;
 use crate::line::Priority;
 use page_columns::put_blanks;
+use page_columns::put_in_five;
+use page_columns::put_in_three;
+use page_columns::put_in_two;
 use page_columns::put_left;
 use page_columns::put_number_right;
 use page_columns::put_right;
@@ -13,6 +16,7 @@ ghost use mathlib.Core.List.{[], _∷_, _++_};
 ghost use mathlib.Core.Path.{_≡_};
 ghost use Prim.Native.Nat.{_+_, _≤_, _<_, _^_};
 ghost use Rattle.text_numbers.specs.Inner.{Put};
+ghost use Rattle.text_numbers.specs.Print.{printNumber};
 ghost use Rattle.trace_words.specs.Words.{switchWordText, wordText};
 ghost use Rattle.page_columns.specs.Columns.{right, left};
 ghost use Rattle.page_lines.specs.PairLines.{priorityText, pairText};
@@ -66,8 +70,20 @@ fn put_priority(out: &mut [u8], at: usize, p: Priority) -> usize
 {
     match p {
         Priority::Absent => put_right(out, at, 5, b"-"),
-        Priority::Of(n) => put_number_right(out, at, 5, n as usize),
+        Priority::Of(n) => put_in_five(out, at, n as usize),
     }
+}
+
+// A switch, right-justified in two columns.
+fn put_switch(out: &mut [u8], at: usize, w: u8) -> usize
+    requires { ⌜ at < 2 ^ 31 ⌝ }
+    ensures { λ r. ⌜ Put (right 2 (printNumber w)) at (now (out .entry)) r (now (out .exit)) ⌝ }
+    ensures { λ r. ⌜ r ≤ at + 80 ⌝ }
+{
+    if w < 100 {
+        return put_in_two(out, at, w as usize);
+    }
+    put_number_right(out, at, 2, w as usize)
 }
 
 // Columns 1 to 11: the events and the switch.
@@ -76,11 +92,11 @@ fn put_numbers(out: &mut [u8], at: usize, l: PairLine) -> usize
     ensures { λ r. ⌜ Put (numbersText l) at (now (out .entry)) r (now (out .exit)) ⌝ }
     ensures { λ r. ⌜ r ≤ at + 420 ⌝ }
 {
-    let n = put_number_right(out, at, 3, l.lower.event as usize);
+    let n = put_in_three(out, at, l.lower.event as usize);
     let n = put_blanks(out, n, 1);
-    let n = put_number_right(out, n, 3, l.higher.event as usize);
+    let n = put_in_three(out, n, l.higher.event as usize);
     let n = put_blanks(out, n, 1);
-    let n = put_number_right(out, n, 2, l.switch as usize);
+    let n = put_switch(out, n, l.switch);
     put_blanks(out, n, 1)
 }
 

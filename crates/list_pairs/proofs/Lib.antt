@@ -5,3 +5,4 @@ pub mod Theorems
 pub mod Numbers
 pub mod Sizes
 pub mod Made
+pub mod EachPair

@@ -1,7 +1,7 @@
 -- Document 01, "The list": the pairs of events and which of them are ordered, commuting or listed; the four counts, each of its own
 -- filter; the bytes of the list.
 use mathlib.Core.Bool.{Bool, _&&_}
-use mathlib.Core.List.{List, [], _∷_}
+use mathlib.Core.List.{List, [], _∷_, _++_}
 use Prim.Native.Nat.{ℕ}
 use lib.Dec.{ltb}
 use lib.ListN.{length}
@@ -40,6 +40,12 @@ listOf es = ofKind listed es (length es)
 abbrev pub pairBytes : List Pair → List ℕ
 pairBytes [] = []
 pairBytes (p ∷ ps) = p .lower ∷ p .higher ∷ pairBytes ps
+
+-- a text for each pair of a list, two bytes a pair, one behind another
+abbrev pub eachPair : (ℕ → ℕ → List ℕ) → List ℕ → List ℕ
+eachPair text [] = []
+eachPair text (i ∷ []) = []
+eachPair text (i ∷ j ∷ list) = text i j ++ eachPair text list
 
 -- the number of pairs of a kind
 abbrev pub count : Kind → List Event → ℕ

@@ -1,5 +1,4 @@
 pub mod Refused
-pub mod ReportLaws
 pub mod Sizes
 pub mod Theorems
 pub mod Printed

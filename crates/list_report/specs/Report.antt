@@ -1,11 +1,11 @@
 -- Document 01, "Program and worked lines": what `racelist` prints.
-use mathlib.Core.List.{List, [], _∷_, _++_}
+use mathlib.Core.List.{List, [], _++_}
 use mathlib.Core.Logic.{inl, inr}
 use Prim.Native.Nat.{ℕ}
 use Rattle.basics.specs.Text.{bytes}
 use Rattle.refusals_text.specs.Report.{keyNumber, refusedText}
 use Rattle.refusals.specs.Checks.{Checked}
-use Rattle.list_pairs.specs.List.{Listing, listingOf}
+use Rattle.list_pairs.specs.List.{eachPair, Listing, listingOf}
 use Rattle.trace_text.specs.TraceText.{readTrace}
 use Rattle.list_report.specs.Types.{Event, Counts}
 
@@ -13,11 +13,9 @@ use Rattle.list_report.specs.Types.{Event, Counts}
 unfoldable pub raceLine : ℕ → ℕ → List ℕ
 raceLine i j = keyNumber (bytes "race=") i ++ keyNumber (bytes ",") j ++ bytes "\n"
 
--- a line for each pair of the list, two bytes each
+-- a line for each pair of the list
 abbrev pub raceLines : List ℕ → List ℕ
-raceLines [] = []
-raceLines (i ∷ []) = []
-raceLines (i ∷ j ∷ l) = raceLine i j ++ raceLines l
+raceLines list = eachPair raceLine list
 
 -- `pairs=2 ordered=1 commuting=0 listed=1`
 unfoldable pub countsLine : Counts → List ℕ

@@ -22,7 +22,7 @@ use Rattle.page_text.specs.Inner.{pairsText}
 use Rattle.page_text.proofs.Putting.{page-put}
 use Rattle.page_text.proofs.Ranges.{lines-range}
 use Rattle.page_text.proofs.Sizes.{page-length}
-use Rattle.page_call.specs.Types.{Event, Trace, Counts, Refusal, PageAnswer, Outcome, TraceRead}
+use Rattle.page_call.specs.Types.{Event, Counts, Refusal, PageAnswer, Outcome, TraceRead}
 use Rattle.page_call.specs.Paged.{paged, pageAnswer}
 use Rattle.page_call.specs.Inner.{fitted, Pages, Ranged}
 

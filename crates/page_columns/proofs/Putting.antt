@@ -1,10 +1,10 @@
 -- Texts in columns, put at a place of a buffer. Assumes nothing.
-use Prim.Native.Nat.{ℕ, _+_, _-_, _≤_, _<_}
+use Prim.Native.Nat.{ℕ, _+_, _-_, _≤_}
 use native.Mathlib.Nat.{add-zero}
 use native.Mathlib.Omega.{arith}
 use mathlib.Core.Path.{_≡_, refl, ap, subst, _∙_}
-use mathlib.Core.List.{List, [], _∷_, _++_}
-use lib.ListN.{length, take, drop, set, replicate, length-take, replicate-append-replicate}
+use mathlib.Core.List.{List}
+use lib.ListN.{length, take, drop, set, length-take, replicate-append-replicate}
 use lib.Seq.{take-at}
 use Rattle.text_numbers.specs.Inner.{Put}
 use Rattle.text_numbers.specs.Print.{printNumber}

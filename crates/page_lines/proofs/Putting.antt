@@ -3,16 +3,16 @@ use Prim.Native.Nat.{ℕ, _+_, _≤_}
 use mathlib.Core.Path.{_≡_, sym, subst}
 use mathlib.Core.List.{List, [], _∷_, _++_, append-assoc, append-nil}
 use Rattle.text_numbers.specs.Inner.{Put}
-use Rattle.text_numbers.proofs.Writing.{put-then, put-none}
+use Rattle.text_numbers.proofs.Writing.{put-then}
 use Rattle.page_columns.specs.Columns.{beside}
 use Rattle.page_lines.specs.Types.{PairLine}
 use Rattle.page_lines.specs.PairLines.{pairFields, pairText}
 use Rattle.page_lines.specs.Inner.{numbersText, wordsText}
 
 -- in an arm of a match: what is put of the form is put of the value
-pub by-arm : {A : Type 0} (text : A → List ℕ) {x form : A} {at n : ℕ} {xs ys : List ℕ} → x ≡ form
+pub arm-put : {A : Type 0} (text : A → List ℕ) {x form : A} {at n : ℕ} {xs ys : List ℕ} → x ≡ form
     → Put (text form) at xs n ys × (n ≤ at + 80) → Put (text x) at xs n ys × (n ≤ at + 80)
-by-arm text {at = at} {n} {xs} {ys} e p = subst (λ (y : _). Put (text y) at xs n ys × (n ≤ at + 80)) (sym e) p
+arm-put text {at = at} {n} {xs} {ys} e p = subst (λ (y : _). Put (text y) at xs n ys × (n ≤ at + 80)) (sym e) p
 
 -- one field behind another
 pub last-field : {f : List ℕ} {at n : ℕ} {xs ys : List ℕ} → Put f at xs n ys → Put (beside (f ∷ [])) at xs n ys

@@ -2,23 +2,23 @@
 use Prim.Native.Nat.{ℕ, zero, suc, _+_, _-_, _<_, _≤_}
 use native.Mathlib.Omega.{arith}
 use mathlib.Core.Path.{_≡_, refl, sym, ap, _∙_}
-use mathlib.Core.Bool.{Bool, true, false}
+use mathlib.Core.Bool.{true}
 use mathlib.Core.List.{List, [], _∷_, _++_}
 use mathlib.Core.Option.{some}
-use lib.ListN.{length, getD, drop}
+use lib.ListN.{length, getD}
 use lib.Seq.{append-snoc}
 use Rattle.basics.specs.Text.{bytes}
 use Rattle.basics.proofs.Booleans.{split}
-use Rattle.text_numbers.specs.Number.{isDigit, readNumber}
+use Rattle.text_numbers.specs.Number.{isDigit}
 use Rattle.text_numbers.specs.Print.{printNumber}
 use Rattle.text_numbers.proofs.Readers.{nothing, same-value}
-use Rattle.text_numbers.proofs.Numbers.{number-format, number-none, digit-range, digit-in}
+use Rattle.text_numbers.proofs.Numbers.{number-format, number-none, digit-range}
 use Rattle.text_numbers.proofs.Format.{Ends, space-ends, whole, unique}
 use Rattle.trace_words.specs.Words.{wordText, printWord, readWord}
 use Rattle.trace_words.proofs.WordFormat.{word-format}
 use Rattle.page_columns.specs.Columns.{blanks, right, left, columns}
 use Rattle.page_columns.proofs.Columns.{Begins, right-unique}
-use Rattle.page_lines.specs.Types.{Word, Priority, Mention, PairLine}
+use Rattle.page_lines.specs.Types.{Word, Priority, PairLine}
 use Rattle.page_lines.specs.PairLines.{priorityText, pairText}
 use Rattle.page_lines.specs.Inner.{PriorityInRange, LineInRange}
 use Rattle.page_lines.proofs.Widths.{word-short}

@@ -1,14 +1,13 @@
 -- What a line says is no wider than its columns. Assumes nothing.
 use Prim.Native.Nat.{ℕ, _<_, _≤_}
 use native.Mathlib.Omega.{arith}
-use mathlib.Core.Path.{_≡_}
 use lib.ListN.{length}
 use Rattle.text_numbers.specs.Print.{printNumber}
 use Rattle.text_numbers.proofs.Print.{print-short}
 use Rattle.trace_words.specs.Words.{wordText}
-use Rattle.page_lines.specs.Types.{Word, SwitchWord, Write, Priority, PairLine}
+use Rattle.page_lines.specs.Types.{Word, SwitchWord, Write, Priority}
 use Rattle.page_lines.specs.PairLines.{priorityText}
-use Rattle.page_lines.specs.Inner.{PriorityInRange, LineInRange}
+use Rattle.page_lines.specs.Inner.{PriorityInRange}
 
 -- a word has at most four letters
 pub word-short : (w : Word) → length (wordText w) ≤ 4

@@ -13,7 +13,6 @@ use trace_words::SwitchWord;
 use trace_words::Word;
 use trace_words::Write;
 ghost use mathlib.Core.List.{[], _∷_, _++_};
-ghost use mathlib.Core.Path.{_≡_};
 ghost use Prim.Native.Nat.{_+_, _≤_, _<_, _^_};
 ghost use Rattle.text_numbers.specs.Inner.{Put};
 ghost use Rattle.text_numbers.specs.Print.{printNumber};

@@ -4,7 +4,7 @@ use native.Mathlib.Omega.{arith}
 use mathlib.Core.Path.{_≡_, refl, sym, ap, _∙_}
 use mathlib.Core.Bool.{Bool, true, false, cond, _||_}
 use mathlib.Core.List.{List, [], _∷_, _++_, map, List·Memᴰ, List·Memᴰ·head, List·Memᴰ·tail}
-use mathlib.Core.Option.{none, some, Option·some-injective}
+use mathlib.Core.Option.{some, Option·some-injective}
 use lib.Dec.{eqb}
 use lib.ListN.{length, getD, getElem?, length-map}
 use lib.Seq.{getD-append-add}
@@ -12,7 +12,7 @@ use borrow.Author.Tests.{ne-eqb, eqb-false}
 use Rattle.basics.specs.Searches.{has}
 use Rattle.text_lines.specs.Inner.{newlines}
 use Rattle.text_numbers.proofs.Readers.{nothing}
-use Rattle.list_pairs.specs.List.{Pair, countsOf}
+use Rattle.list_pairs.specs.List.{Pair}
 use Rattle.page_lines.specs.PairLines.{pairText}
 use Rattle.page_lines.specs.Inner.{LineInRange}
 use Rattle.page_text.specs.Page.{saidOf, countTexts, pageLines}

@@ -1,23 +1,21 @@
 -- The page of an accepted trace is as the request has it (`page-of`), of at most 1,991,284 bytes (`page-room`), and one page is one list
 -- (`same-page-iff`). Assumes nothing.
-use Prim.Native.Nat.{ℕ, _+_, _*_, _<_, _≤_}
+use Prim.Native.Nat.{ℕ, _+_, _*_, _≤_}
 use native.Mathlib.Nat.{add-zero}
 use native.Mathlib.Omega.{arith}
-use mathlib.Core.Path.{_≡_, refl, sym, ap, ap₂, _∙_}
-use mathlib.Core.Logic.{_↔_, inl, inr}
+use mathlib.Core.Path.{_≡_, refl, ap, ap₂, _∙_}
+use mathlib.Core.Logic.{_↔_, inr}
 use mathlib.Core.Bool.{true}
 use mathlib.Core.List.{List, []}
 use mathlib.Core.Option.{some}
 use lib.ListN.{length, getD, getElem?}
-use lib.Dec.{eqb}
 use borrow.Author.Tests.{eqb-true}
 use Rattle.basics.specs.Text.{bytes}
 use Rattle.basics.proofs.Booleans.{and-left, and-right}
 use Rattle.call_answers.specs.Inner.{Small}
 use Rattle.flow_table.specs.Switches.{switchOf, usesTable}
-use Rattle.refusals.specs.Checks.{Checked, refuseShort}
-use Rattle.refusals.proofs.Checks.{same-value, handed-on, short-passed}
-use Rattle.text_lines.specs.Lines.{lines, unlines}
+use Rattle.refusals.proofs.Checks.{short-passed}
+use Rattle.text_lines.specs.Lines.{unlines}
 use Rattle.text_lines.proofs.Lines.{lines-plain}
 use Rattle.trace_events.specs.Events.{eventAt}
 use Rattle.trace_text.specs.TraceText.{readTrace}
@@ -37,7 +35,7 @@ use Rattle.page_text.proofs.Lines.{page-lines}
 use Rattle.page_text.proofs.CountColumns.{count-columns}
 use Rattle.page_text.proofs.Unique.{page-unique, list-said}
 use Rattle.page_call.specs.Paged.{paged}
-use Rattle.page_meaning.specs.Types.{Event, Counts, Refusal}
+use Rattle.page_meaning.specs.Types.{Event, Refusal}
 use Rattle.page_meaning.specs.PageOf.{lineOn, PageOf, SamePage}
 use Rattle.page_meaning.proofs.Lines.{at-member, pair-at, range-at, count-at, none-there}
 

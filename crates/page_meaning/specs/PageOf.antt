@@ -12,7 +12,7 @@ use Rattle.flow_table.specs.Switches.{switchOf}
 use Rattle.trace_events.specs.Events.{eventAt}
 use Rattle.list_pairs.specs.List.{Pair, listOf, countsOf}
 use Rattle.page_lines.specs.PairLines.{PairColumns}
-use Rattle.page_text.specs.Page.{saidOf, pairLines, CountColumns, pageText}
+use Rattle.page_text.specs.Page.{saidOf, pairLines, CountColumns}
 use Rattle.page_meaning.specs.Types.{Event}
 
 -- line k of a page, without its LF

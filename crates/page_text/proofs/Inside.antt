@@ -1,5 +1,5 @@
 -- The bytes of a trace's list are events of the trace. Assumes nothing.
-use Prim.Native.Nat.{ℕ, zero, suc, _<_, _≤_}
+use Prim.Native.Nat.{ℕ, zero, suc, _<_}
 use native.Mathlib.Omega.{arith}
 use mathlib.Core.Path.{_≡_, refl}
 use mathlib.Core.List.{List, [], _∷_, List·Memᴰ, List·Memᴰ·head, List·Memᴰ·tail}
@@ -8,7 +8,7 @@ use Rattle.trace_events.specs.Events.{eventsOf}
 use Rattle.list_verdicts.specs.Kinds.{listed}
 use Rattle.list_pairs.specs.List.{test, Pair, listOf, pairBytes}
 use Rattle.list_pairs.proofs.Members.{pairs-in}
-use Rattle.page_text.specs.Types.{Event, Trace}
+use Rattle.page_text.specs.Types.{Trace}
 
 bytes-below : (n : ℕ) (ps : List Pair) → ((i j : ℕ) → List·Memᴰ (record { lower = i; higher = j }) ps → (i < n) × (j < n)) → (k : ℕ) → k < length (pairBytes ps) → getD (pairBytes ps) k 0 < n
 bytes-below n [] h k l = absurd (omega arith)

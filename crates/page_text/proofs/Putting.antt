@@ -1,5 +1,5 @@
 -- Lines put one behind another, and the page. Assumes nothing.
-use Prim.Native.Nat.{ℕ, _-_, _≤_}
+use Prim.Native.Nat.{ℕ, _-_}
 use mathlib.Core.Path.{_≡_, refl, sym, ap, ap₂, subst, _∙_}
 use mathlib.Core.List.{List, [], _∷_, _++_, map}
 use lib.ListN.{length}
@@ -9,12 +9,12 @@ use Rattle.text_numbers.specs.Print.{printNumber}
 use Rattle.text_numbers.proofs.Writing.{put-then}
 use Rattle.text_lines.specs.Lines.{unlines}
 use Rattle.text_lines.proofs.Lines.{unlines-append}
-use Rattle.list_pairs.specs.List.{Pair, listOf, pairBytes, countsOf}
+use Rattle.list_pairs.specs.List.{Pair, listOf, pairBytes, eachPair, countsOf}
 use Rattle.page_columns.specs.Columns.{right}
 use Rattle.page_lines.specs.PairLines.{pairText}
-use Rattle.page_text.specs.Types.{Event, Counts, PairLine}
+use Rattle.page_text.specs.Types.{Event, Counts}
 use Rattle.page_text.specs.Page.{saidOf, pairLines, countText, countTexts, pageLines, pageText}
-use Rattle.page_text.specs.Inner.{saidIn, pairsText}
+use Rattle.page_text.specs.Inner.{lineOfPair, pairsText}
 
 -- a line and its LF, before other lines and as the last
 pub line-then : (l : List ℕ) (ls : List (List ℕ)) {at m n : ℕ} {xs ys zs : List ℕ} → Put (l ++ (10 ∷ [])) at xs m ys → Put (unlines ls) m ys n zs → Put (unlines (l ∷ ls)) at xs n zs
@@ -30,17 +30,21 @@ pub count-put : (name : List ℕ) (v : ℕ) {w at m n : ℕ} {xs ys zs : List �
 unfolding countText
 count-put name v e p q = rw (← e) (put-then p q)
 
--- what the page says of a list's pairs, from its bytes
-said-in : (es : List Event) (ps : List Pair) → saidIn es (pairBytes ps) ≡ map (saidOf es) ps
-said-in es [] = refl
-said-in es (p ∷ ps) = ap (λ (r : List PairLine). saidOf es p ∷ r) (said-in es ps)
+-- the lines of a list's pairs, from its bytes
+pairs-lines : (es : List Event) (ps : List Pair) → eachPair (lineOfPair es) (pairBytes ps) ≡ unlines (map pairText (map (saidOf es) ps))
+unfolding unlines
+pairs-lines es [] = refl
+pairs-lines es (p ∷ ps) =
+    append-snoc (pairText (saidOf es p)) 10 (eachPair (lineOfPair es) (pairBytes ps))
+    ∙ ap (λ (r : List ℕ). pairText (saidOf es p) ++ (10 ∷ r)) (pairs-lines es ps)
 
 -- the lines of the pairs and those of the counts are the page
 pub page-put : (es : List Event) (list : List ℕ) (c : Counts) {at n : ℕ} {xs ys zs : List ℕ} → list ≡ pairBytes (listOf es) → c ≡ countsOf es
     → Put (pairsText es list) 0 xs at ys → Put (unlines (countTexts c)) at ys n zs → Put (pageText es) 0 xs n zs
 unfolding pageText pageLines pairLines pairsText
 page-put es list c {n = n} {xs} {zs = zs} e f p q =
-    let g : unlines (map pairText (saidIn es list)) ++ unlines (countTexts c) ≡ pageText es =
-    sym (unlines-append (map pairText (saidIn es list)) (countTexts c))
-    ∙ ap₂ (λ (ls : List PairLine) (d : Counts). unlines (map pairText ls ++ countTexts d)) (ap (saidIn es) e ∙ said-in es (listOf es)) f in
+    let g : eachPair (lineOfPair es) list ++ unlines (countTexts c) ≡ pageText es =
+    ap₂ (λ (l : List ℕ) (d : Counts). eachPair (lineOfPair es) l ++ unlines (countTexts d)) e f
+    ∙ ap (λ (t : List ℕ). t ++ unlines (countTexts (countsOf es))) (pairs-lines es (listOf es))
+    ∙ sym (unlines-append (map pairText (map (saidOf es) (listOf es))) (countTexts (countsOf es))) in
     subst (λ (t : List ℕ). Put t 0 xs n zs) g (put-then p q)

@@ -9,7 +9,7 @@ use Rattle.text_numbers.specs.Print.{printNumber}
 use Rattle.text_numbers.proofs.Print.{print-length}
 use Rattle.text_lines.specs.Lines.{unlines}
 use Rattle.list_verdicts.specs.Kinds.{listed}
-use Rattle.list_pairs.specs.List.{Pair, listOf, count, countsOf}
+use Rattle.list_pairs.specs.List.{listOf, count, countsOf}
 use Rattle.page_columns.proofs.Columns.{right-length}
 use Rattle.page_lines.specs.PairLines.{pairText}
 use Rattle.page_lines.proofs.PairColumns.{pair-length}

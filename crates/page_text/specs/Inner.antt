@@ -1,17 +1,15 @@
--- Inner: the lines of the pairs as the code goes through them, two bytes a pair; and the ranges in which columns hold.
-use mathlib.Core.List.{List, [], _∷_, map}
+-- Inner: the lines of the pairs as the code goes through them, two bytes a pair.
+use mathlib.Core.List.{List, [], _∷_, _++_}
 use Prim.Native.Nat.{ℕ}
-use Rattle.text_lines.specs.Lines.{unlines}
+use Rattle.list_pairs.specs.List.{eachPair}
 use Rattle.page_lines.specs.PairLines.{pairText}
-use Rattle.page_text.specs.Types.{Event, PairLine}
+use Rattle.page_text.specs.Types.{Event}
 use Rattle.page_text.specs.Page.{saidOf}
 
--- what the page says of the pairs of a list
-abbrev pub saidIn : List Event → List ℕ → List PairLine
-saidIn es [] = []
-saidIn es (i ∷ []) = []
-saidIn es (i ∷ j ∷ list) = saidOf es (record { lower = i; higher = j }) ∷ saidIn es list
+-- the line of a pair and its LF
+abbrev pub lineOfPair : List Event → ℕ → ℕ → List ℕ
+lineOfPair es i j = pairText (saidOf es (record { lower = i; higher = j })) ++ (10 ∷ [])
 
--- their lines
+-- the lines of the pairs of a list
 unfoldable pub pairsText : List Event → List ℕ → List ℕ
-pairsText es list = unlines (map pairText (saidIn es list))
+pairsText es list = eachPair (lineOfPair es) list

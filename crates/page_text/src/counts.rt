@@ -4,7 +4,6 @@ use page_columns::put_number_right;
 use text_numbers::put_byte;
 use text_numbers::put_bytes;
 ghost use mathlib.Core.List.{[], _∷_, _++_};
-ghost use mathlib.Core.Path.{_≡_};
 ghost use Prim.Native.Nat.{_+_, _≤_, _<_, _^_};
 ghost use lib.ListN.{length};
 ghost use Rattle.text_numbers.specs.Inner.{Put};

@@ -2,7 +2,6 @@
 use page_lines::pair_line;
 use page_lines::put_pair_line;
 use trace_events::Trace;
-ghost use mathlib.Core.Path.{_≡_};
 ghost use Prim.Native.Nat.{ℕ, _<_, _≤_, _^_};
 ghost use lib.ListN.{length, getD};
 ghost use Rattle.text_numbers.specs.Inner.{Put};

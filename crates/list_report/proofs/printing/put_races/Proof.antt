@@ -6,8 +6,8 @@ use mathlib.Core.List.{List, [], _++_}
 use lib.ListN.{length, drop}
 use Rattle.text_numbers.specs.Inner.{Put}
 use Rattle.text_numbers.proofs.Writing.{put-none, put-length}
-use Rattle.list_report.specs.Report.{raceLines}
-use Rattle.list_report.proofs.ReportLaws.{races-turn, races-done}
+use Rattle.list_report.specs.Report.{raceLine, raceLines}
+use Rattle.list_pairs.proofs.EachPair.{pairs-turn, pairs-done}
 use Rattle.list_report.proofs.printing.put_races.Statement.{statement}
 use Rattle.list_report.proofs.printing.put_races.Tie as tie
 
@@ -29,7 +29,7 @@ loop-again c =
     let l = at-loop .loop in
     let a = at-start .args in
     let e = at-put-race .put-race .ensures in
-    let t = races-turn (a .list .now) (a .out .now) (l .i) (l .inv .3 .1) (l .inv .3 .2) (omega arith) (e .0) in
+    let t = pairs-turn raceLine (a .list .now) (a .out .now) (l .i) (l .inv .3 .1) (l .inv .3 .2) (omega arith) (e .0) in
     (omega arith, omega (arith, e .1), l .inv .2, (_, t .0, t .1))
 
 same-length : tie.Need-same-length Inv-loop μ-loop
@@ -38,7 +38,7 @@ same-length c = put-length (c .before .loop .inv .3 .1)
 returns : tie.Need-returns Inv-loop μ-loop
 returns c =
     let l = c .before .loop in
-    (races-done _ _ (l .i) (l .inv .3 .1) (l .inv .3 .2) (omega arith), omega arith)
+    (pairs-done raceLine _ _ (l .i) (l .inv .3 .1) (l .inv .3 .2) (omega arith), omega arith)
 
 pub put-races-spec : {M : Type 1} → statement M
 put-races-spec =

@@ -8,9 +8,11 @@ use Rattle.basics.proofs.Arrays.{length-mapped}
 use Rattle.text_numbers.specs.Inner.{Put}
 use Rattle.text_numbers.proofs.Writing.{put-none, put-length}
 use Rattle.trace_events.specs.Events.{eventsOf}
+use Rattle.list_pairs.specs.List.{eachPair}
+use Rattle.list_pairs.proofs.EachPair.{pairs-turn, pairs-done}
 use Rattle.page_text.specs.Types.{Trace}
-use Rattle.page_text.specs.Inner.{pairsText}
-use Rattle.page_text.proofs.Turns.{line-made, pairs-turn, pairs-done}
+use Rattle.page_text.specs.Inner.{lineOfPair, pairsText}
+use Rattle.page_text.proofs.Turns.{line-made}
 use borrow.Author.Needs.{needs}
 use Rattle.page_text.proofs.pairs.put_pairs.Statement.{statement}
 use Rattle.page_text.proofs.pairs.put_pairs.Tie as tie
@@ -22,7 +24,7 @@ Inside t list = (t .len ≤ 256) × (length (t .events) ≡ 256) × ((k : ℕ) �
 abbrev Inv-loop : tie.InvT-loop
 Inv-loop out₀ list t at₀ i₀ out at i =
     (i ≤ length list) × (at ≤ 500 * i) × (length list ≤ 131072) × Inside t list
-    × ((w : List ℕ) × Put w 0 out₀ at out × (w ++ pairsText (eventsOf t) (drop i list) ≡ pairsText (eventsOf t) list))
+    × ((w : List ℕ) × Put w 0 out₀ at out × (w ++ eachPair (lineOfPair (eventsOf t)) (drop i list) ≡ eachPair (lineOfPair (eventsOf t)) list))
 
 abbrev μ-loop : tie.MeasureT-loop
 μ-loop out₀ list t at₀ i₀ out at i = length list - i
@@ -47,16 +49,18 @@ loop-again c =
     let a = test .before .before .before .before .args in
     let e = c .before .before .put-pair-line .ensures in
     let made = line-made (a .t2) (a .list .now) (l .i) (l .inv .3 .2 (l .i) (omega arith)) (l .inv .3 .2 (l .i + 1) (omega arith)) (line .pair-line .ensures) (e .0) in
-    let t = pairs-turn (eventsOf (a .t2)) (a .list .now) (a .out .now) (l .i) (l .inv .4 .1) (l .inv .4 .2) (omega arith) made in
+    let t = pairs-turn (lineOfPair (eventsOf (a .t2))) (a .list .now) (a .out .now) (l .i) (l .inv .4 .1) (l .inv .4 .2) (omega arith) made in
     (omega arith, omega (arith, e .1), l .inv .2, l .inv .3, (_, t .0, t .1))
 
 same-length : tie.Need-same-length Inv-loop μ-loop
 same-length c = put-length (c .before .loop .inv .4 .1)
 
 returns : tie.Need-returns Inv-loop μ-loop
+unfolding pairsText
 returns c =
     let l = c .before .loop in
-    (pairs-done _ _ _ (l .i) (l .inv .4 .1) (l .inv .4 .2) (omega arith), omega arith)
+    let a = c .before .before .before .before .args in
+    (pairs-done (lineOfPair (eventsOf (a .t2))) (a .list .now) (a .out .now) (l .i) (l .inv .4 .1) (l .inv .4 .2) (omega arith), omega arith)
 
 pub put-pairs-spec : {M : Type 1} → statement M
 put-pairs-spec =

@@ -1,4 +1,4 @@
--- Job 1, refusals 1 to 8 and 51: what the page call makes of a trace and a buffer.
+-- Document 01, "The page" and refusals 1 to 8 and 51: what the page call makes of a trace and a buffer.
 use mathlib.Core.List.{List}
 use mathlib.Core.Logic.{inl, inr}
 use Prim.Native.Nat.{ℕ}

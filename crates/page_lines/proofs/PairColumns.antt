@@ -1,4 +1,4 @@
--- Each field of a line stands in the request's columns (`pair-columns`), and the line is 60 bytes long. Assumes nothing.
+-- Each field of a line stands in document 01's columns (`pair-columns`), and the line is 60 bytes long. Assumes nothing.
 use Prim.Native.Nat.{ℕ, suc, _-_}
 use mathlib.Core.Path.{_≡_, refl, ap, _∙_}
 use mathlib.Core.List.{List, [], _∷_}

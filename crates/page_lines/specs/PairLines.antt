@@ -1,4 +1,4 @@
--- Job 1, "A page the desk can pin up": what the line of a listed pair says, and its columns.
+-- Document 01, "The page": what the line of a listed pair says, and its columns.
 use mathlib.Core.List.{List, [], _∷_}
 use Prim.Native.Nat.{ℕ}
 use Rattle.basics.specs.Text.{bytes}
@@ -66,7 +66,7 @@ pairFields l =
 unfoldable pub pairText : PairLine → List ℕ
 pairText l = beside (pairFields l)
 
--- ---- the request's columns, one by one (`pair-columns`, proofs/PairColumns.antt: a line is so)
+-- ---- document 01's columns, one by one (`pair-columns`, proofs/PairColumns.antt: a line is so)
 pub record PairColumns (l : PairLine) (line : List ℕ) : Type 0 where
   pub lower : StandsRight 1 3 (printNumber (l .lower .event)) line
   pub blank4 : Blank 4 4 line

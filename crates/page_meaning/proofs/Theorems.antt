@@ -1,4 +1,4 @@
--- The page of an accepted trace is as the request has it (`page-of`), of at most 1,991,284 bytes (`page-room`), and one page is one list
+-- The page of an accepted trace is as document 01 has it (`page-of`), of at most 1,991,284 bytes (`page-room`), and one page is one list
 -- (`same-page-iff`). Assumes nothing.
 use Prim.Native.Nat.{ℕ, _+_, _*_, _≤_}
 use native.Mathlib.Nat.{add-zero}

@@ -1,4 +1,4 @@
--- Job 1, "A page the desk can pin up", in its words: what stands on the page of an accepted trace, and when two pages are the same.
+-- Document 01, "The page", in its words: what stands on the page of an accepted trace, and when two pages are the same.
 use mathlib.Core.Path.{_≡_}
 use mathlib.Core.Bool.{false}
 use mathlib.Core.List.{List, []}

@@ -1,4 +1,4 @@
--- Name and number of a count stand in the request's columns (`count-columns`). Assumes nothing.
+-- Name and number of a count stand in document 01's columns (`count-columns`). Assumes nothing.
 use Prim.Native.Nat.{ℕ, suc, _-_, _≤_}
 use native.Mathlib.Omega.{arith}
 use mathlib.Core.Path.{_≡_}

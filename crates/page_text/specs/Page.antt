@@ -1,4 +1,4 @@
--- Job 1, "A page the desk can pin up": the list on paper, 60 columns wide.
+-- Document 01, "The page": the list on paper, 60 columns wide.
 use mathlib.Core.List.{List, [], _∷_, _++_, map}
 use mathlib.Core.Path.{_≡_}
 use Prim.Native.Nat.{ℕ, suc, _-_}
@@ -41,7 +41,7 @@ pageLines ls c = map pairText ls ++ countTexts c
 unfoldable pub pageText : List Event → List ℕ
 pageText es = unlines (pageLines (pairLines es) (countsOf es))
 
--- the columns of a count, as the request has them (`count-columns`, proofs/CountColumns.antt: its line is so)
+-- the columns of a count, as document 01 has them (`count-columns`, proofs/CountColumns.antt: its line is so)
 pub record CountColumns (name : List ℕ) (n : ℕ) (line : List ℕ) : Type 0 where
   pub first : columns 1 (length name) line ≡ name
   pub number : StandsRight (suc (length name)) 60 (printNumber n) line

@@ -13,8 +13,7 @@ fn page_room() -> [u8; 1991284]
     [0u8; 1991284]
 }
 
-// The page goes out with one write, and so does a refusal.
-fn answer_in_full(trace: &[u8]) {
+fn answer(trace: &[u8]) {
     let mut out = page_room();
     let a = page_call::page(trace, &mut out);
     match a {
@@ -25,43 +24,6 @@ fn answer_in_full(trace: &[u8]) {
             program_output::write_refused(trace, b"", e);
         }
     }
-}
-
-// Room for the page of some 260 pairs.
-fn short_room() -> [u8; 16384]
-    ensures { λ r. ⌜ (r ≡ zeros 16384) × (length r ≡ 16384) ⌝ }
-{
-    [0u8; 16384]
-}
-
-// The same from a small buffer, which takes less time to clear; false where the page doesn't fit it.
-fn answered_shortly(trace: &[u8]) -> bool {
-    let mut out = short_room();
-    let a = page_call::page(trace, &mut out);
-    match a {
-        PageAnswer::Length(n) => {
-            program_output::write(text_lines::front(&out, n));
-            true
-        }
-        PageAnswer::Refused(e) => {
-            let r = e.returned();
-            if r.number == 51 {
-                return false;
-            }
-            program_output::write_refused(trace, b"", e);
-            true
-        }
-    }
-}
-
-// A short trace mostly has a short page.
-fn answer(trace: &[u8]) {
-    if trace.len() <= 8192 {
-        if answered_shortly(trace) {
-            return;
-        }
-    }
-    answer_in_full(trace);
 }
 
 fn main() {

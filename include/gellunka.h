@@ -29,7 +29,8 @@ extern "C" {
 #define GELLUNKA_MAX_BYTES 65535 /* of a trace or a table text */
 #define GELLUNKA_MAX_LINES 256   /* of a trace or a table text */
 
-/* Buffers of these lengths are never too short: proved, crates/replay_agreement/proofs/Rooms.antt. */
+/* Buffers of these lengths are never too short: proved, crates/replay_agreement/proofs/Rooms.antt, the page's in
+ * crates/page_meaning/proofs/Theorems.antt. */
 #define GELLUNKA_LIST_ROOM 65280    /* of gellunka_list_races */
 #define GELLUNKA_PAGE_ROOM 1991284  /* of gellunka_page */
 #define GELLUNKA_NORMAL_ROOM 26880  /* of gellunka_normalise */

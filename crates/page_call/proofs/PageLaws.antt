@@ -42,7 +42,7 @@ module _ (es : List Event) (c : Counts) (bytes : List ℕ) (h : HoldsList es c b
 
   module _ (few : length es ≤ 256) (range : (i : ℕ) → EventInRange (eventAt es i)) (old : List ℕ) where
     needed-is : 61 * (c .listed + 4) ≡ length (pageText es)
-    needed-is = ap (λ (n : ℕ). 61 * (n + 4)) listed-is ∙ sym (page-length es (lines-range es few range))
+    needed-is = ap (λ (n : ℕ). 61 * (n + 4)) listed-is ∙ sym (page-length es (lines-range es range few))
 
     pub page-short : length old < 61 * (c .listed + 4) → Pages (fitted es (length old)) (PageAnswer.Refused (Refusal.PageShort (61 * (c .listed + 4)))) old old
     unfolding fitted

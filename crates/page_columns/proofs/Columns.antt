@@ -1,10 +1,11 @@
 -- Laws of texts in columns: how long a field is, which text stands in it, and where it stands in its line. Assumes nothing.
-use Prim.Native.Nat.{ℕ, zero, suc, _+_, _-_, _≤_}
+use Prim.Native.Nat.{ℕ, zero, suc, _+_, _-_, _≤_, _<_}
+use native.Mathlib.Nat.{zero-add, suc-add, add-suc}
 use native.Mathlib.Omega.{arith}
-use mathlib.Core.Path.{_≡_, refl, sym, ap}
-use mathlib.Core.List.{List, [], _∷_, _++_}
-use lib.ListN.{length, getD, take, drop, replicate, length-append, length-replicate}
-use lib.Seq.{take-at, take-nil, drop-nil, drop-append-add}
+use mathlib.Core.Path.{_≡_, refl, sym, ap, _∙_}
+use mathlib.Core.List.{List, [], _∷_, _++_, append-assoc, append-nil}
+use lib.ListN.{length, getD, take, drop, set, replicate, length-append, length-replicate}
+use lib.Seq.{sets, sets-eq, take-at, take-nil, drop-nil, drop-append-add, drop-append-seam}
 use Rattle.page_columns.specs.Columns.{blanks, right, left, beside, columns}
 
 -- ---- lengths
@@ -61,6 +62,14 @@ pub beside-length : (fs : List (List ℕ)) → length (beside fs) ≡ sum (width
 beside-length [] = refl
 beside-length (f ∷ fs) = rw (length-append, beside-length fs)
 
+widths-length : (fs : List (List ℕ)) → length (widths fs) ≡ length fs
+widths-length [] = refl
+widths-length (f ∷ fs) = ap suc (widths-length fs)
+
+pub beside-snoc : (fs : List (List ℕ)) (f : List ℕ) → beside (fs ++ (f ∷ [])) ≡ beside fs ++ f
+beside-snoc [] f = append-nil f
+beside-snoc (g ∷ fs) f = ap (λ (r : List ℕ). g ++ r) (beside-snoc fs f) ∙ sym (append-assoc g (beside fs) f)
+
 module _ (n : ℕ) where
   field-at : (fs : List (List ℕ)) (k m : ℕ) → sum (take k (widths fs)) ≡ m → getD (widths fs) k 0 ≡ n → take n (drop m (beside fs)) ≡ getD fs k []
   field-at [] k m a b = rw (drop-nil m, take-nil n)
@@ -73,3 +82,36 @@ pub in-columns : (from to : ℕ) (fs : List (List ℕ)) (ns : List ℕ) (k : ℕ
     → columns from to (beside fs) ≡ getD fs k []
 unfolding columns
 in-columns from to fs ns k w a b = field-at (suc to - from) fs k (from - 1) (rw w a) (rw w b)
+
+-- ---- a field put over one of the same width
+-- fields of these widths stand side by side in a buffer
+pub record Fields (ns : List ℕ) (fs : List (List ℕ)) (ys : List ℕ) : Type 0 where
+  pub stand : ys ≡ beside fs
+  pub wide : widths fs ≡ ns
+
+set-behind : (a b : List ℕ) (i x : ℕ) → set (a ++ b) (length a + i) x ≡ a ++ set b i x
+set-behind [] b i x = rw zero-add
+set-behind (y ∷ a) b i x = rw suc-add (ap (λ (r : List ℕ). y ∷ r) (set-behind a b i x))
+
+sets-behind : (a b : List ℕ) (i : ℕ) (f : List ℕ) → sets (a ++ b) (length a + i) f ≡ a ++ sets b i f
+sets-behind a b i [] = refl
+sets-behind a b i (x ∷ f) = rw (set-behind a b i x, ← add-suc (length a) i) (sets-behind a (set b i x) (suc i) f)
+
+module _ (f : List ℕ) where
+  over : (fs : List (List ℕ)) (k : ℕ) → k < length fs → length f ≡ getD (widths fs) k 0 → sets (beside fs) (sum (take k (widths fs))) f ≡ beside (set fs k f)
+  over [] k l e = absurd (omega arith)
+  over (g ∷ fs) zero l e = sets-eq f (g ++ beside fs) 0 (omega (arith, length-append g (beside fs))) ∙ rw (zero-add, e, drop-append-seam g (beside fs)) refl
+  over (g ∷ fs) (suc k) l e = sets-behind g (beside fs) (sum (take k (widths fs))) f ∙ ap (λ (r : List ℕ). g ++ r) (over fs k (omega arith) e)
+
+  same-widths : (fs : List (List ℕ)) (k : ℕ) → length f ≡ getD (widths fs) k 0 → widths (set fs k f) ≡ widths fs
+  same-widths [] k e = refl
+  same-widths (g ∷ fs) zero e = rw e refl
+  same-widths (g ∷ fs) (suc k) e = ap (λ (r : List ℕ). length g ∷ r) (same-widths fs k e)
+
+  pub field-put : (ns : List ℕ) (k m : ℕ) {fs : List (List ℕ)} {ys zs : List ℕ} → Fields ns fs ys → k < length ns → sum (take k ns) ≡ m → length f ≡ getD ns k 0
+      → zs ≡ sets ys m f → Fields ns (set fs k f) zs
+  field-put ns k m {fs} p l a b z =
+      let w = p .wide in
+      let e : length f ≡ getD (widths fs) k 0 = rw w b in
+      let q : sum (take k (widths fs)) ≡ m = rw w a in
+      record { stand = z ∙ rw (p .stand, ← q) (over fs k (omega (arith, widths-length fs, ap length w)) e); wide = same-widths fs k e ∙ w }

@@ -48,7 +48,7 @@ module _ (w v : ℕ) where
       rw (print-big v l h, length-append, n, append-assoc) refl
 
 -- ---- the widths
-pub in-two : (v : ℕ) → v < 100 → right 2 (printNumber v) ≡ digitOrBlank v 10 ∷ (48 + v % 10) ∷ []
+in-two : (v : ℕ) → v < 100 → right 2 (printNumber v) ≡ digitOrBlank v 10 ∷ (48 + v % 10) ∷ []
 unfolding blanks
 in-two v h =
     elim (decLt v 10) [
@@ -56,7 +56,7 @@ in-two v h =
       | no l ↦ right-big 1 v (omega arith) (omega arith) ∙ rw (right-small 0 (v / 10) (omega arith), digit-there v 10 (omega arith)) refl
     ]
 
-pub in-three : (v : ℕ) → v < 1000 → right 3 (printNumber v) ≡ digitOrBlank v 100 ∷ digitOrBlank v 10 ∷ (48 + v % 10) ∷ []
+in-three : (v : ℕ) → v < 1000 → right 3 (printNumber v) ≡ digitOrBlank v 100 ∷ digitOrBlank v 10 ∷ (48 + v % 10) ∷ []
 unfolding blanks
 in-three v h =
     elim (decLt v 10) [
@@ -74,7 +74,7 @@ in-four v h =
           ∙ rw (in-three (v / 10) (omega arith), tenth v 100 1000 (λ a. omega arith) (λ a. omega arith) (omega arith), tenth v 10 100 (λ a. omega arith) (λ a. omega arith) (omega arith), digit-there v 10 (omega arith)) refl
     ]
 
-pub in-five : (v : ℕ) → v < 100000 → right 5 (printNumber v) ≡ digitOrBlank v 10000 ∷ digitOrBlank v 1000 ∷ digitOrBlank v 100 ∷ digitOrBlank v 10 ∷ (48 + v % 10) ∷ []
+in-five : (v : ℕ) → v < 100000 → right 5 (printNumber v) ≡ digitOrBlank v 10000 ∷ digitOrBlank v 1000 ∷ digitOrBlank v 100 ∷ digitOrBlank v 10 ∷ (48 + v % 10) ∷ []
 unfolding blanks
 in-five v h =
     elim (decLt v 10) [

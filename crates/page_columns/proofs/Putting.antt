@@ -2,10 +2,11 @@
 use Prim.Native.Nat.{ℕ, _+_, _-_, _≤_}
 use native.Mathlib.Nat.{add-zero}
 use native.Mathlib.Omega.{arith}
-use mathlib.Core.Path.{_≡_, refl, ap, subst, _∙_}
-use mathlib.Core.List.{List}
-use lib.ListN.{length, take, drop, set, length-take, replicate-append-replicate}
-use lib.Seq.{take-at}
+use mathlib.Core.Path.{_≡_, refl, sym, ap, subst, _∙_}
+use mathlib.Core.List.{List, [], _++_, append-assoc, append-nil}
+use lib.ListN.{length, take, drop, set, length-take, replicate-append-replicate, length-drop, drop-of-length-le}
+use lib.Seq.{take-at, take-all, take-length, drop-drop, sets-eq}
+use borrow.Rule.Slice.PartMut.{midOf, postOf, putMid, post-is}
 use Rattle.text_numbers.specs.Inner.{Put}
 use Rattle.text_numbers.specs.Print.{printNumber}
 use Rattle.text_numbers.proofs.Writing.{put-none, put-one, put-then, put-whole, print-length}
@@ -54,3 +55,15 @@ digits-there v {xs} {ys} {n} p h =
 
 pub number-put : (w v : ℕ) {text : List ℕ} {at n : ℕ} {xs zs : List ℕ} → text ≡ printNumber v → Put (right w text) at xs n zs → Put (right w (printNumber v)) at xs n zs
 number-put w v {at = at} {n} {xs} {zs} e p = subst (λ (t : List ℕ). Put (right w t) at xs n zs) e p
+
+-- ---- a text copied into the part of a buffer from a place on
+pub block-put : (text xs : List ℕ) {at : ℕ} {ys : List ℕ} → at + length text ≤ length xs → ys ≡ take (length text) text ++ drop (length text) (midOf at (length xs - at) xs)
+    → Put text at xs (at + length text) (putMid at (length xs - at) xs ys)
+block-put text xs {at} h y =
+    let mid : midOf at (length xs - at) xs ≡ drop at xs = take-all (length xs - at) (drop at xs) (simp length-drop (omega arith)) in
+    let full : length xs ≤ length xs = omega arith in
+    let post : postOf at (length xs - at) xs ≡ [] = post-is at (length xs) xs (omega arith) ∙ drop-of-length-le xs full in
+    record {
+      after = refl;
+      bytes = rw (post, append-nil, y, mid, take-length text, drop-drop) (sym (sets-eq text xs at h ∙ append-assoc (take at xs) text (drop (at + length text) xs)));
+    }

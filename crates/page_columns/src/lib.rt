@@ -111,3 +111,16 @@ pub fn put_number_right(out: &mut [u8], at: usize, width: usize, v: usize) -> us
     let n = put_number(&mut digits, 0, v);
     put_right(out, at, width, &digits[..n])
 }
+
+// A text, copied at once where the buffer has room for it.
+pub fn put_block(out: &mut [u8], at: usize, text: &[u8]) -> usize
+    requires { ⌜ (at < 2 ^ 31) × (length (now text) ≤ 100) ⌝ }
+    ensures { λ r. ⌜ Put (now (text .entry)) at (now (out .entry)) r (now (out .exit)) ⌝ }
+{
+    let end = at + text.len();
+    if end <= out.len() {
+        bytes::copy(text, &mut out[at..]);
+        return end;
+    }
+    put_bytes(out, at, text)
+}

@@ -13,29 +13,29 @@ use Rattle.page_lines.specs.Inner.{LineInRange}
 use Rattle.page_lines.proofs.Widths.{word-fits, priority-fits, event-fits, switch-fits}
 
 -- the widths of a line's fields
-abbrev lineWidths : List ℕ
+abbrev pub lineWidths : List ℕ
 lineWidths = 3 ∷ 1 ∷ 3 ∷ 1 ∷ 2 ∷ 1 ∷ 5 ∷ 5 ∷ 5 ∷ 1 ∷ 5 ∷ 28 ∷ []
 
 module _ (l : PairLine) (h : LineInRange l) where
-  lower-width : length (right 3 (printNumber (l .lower .event))) ≡ 3
+  pub lower-width : length (right 3 (printNumber (l .lower .event))) ≡ 3
   lower-width = right-length 3 _ (event-fits _ (h .lower))
 
-  higher-width : length (right 3 (printNumber (l .higher .event))) ≡ 3
+  pub higher-width : length (right 3 (printNumber (l .higher .event))) ≡ 3
   higher-width = right-length 3 _ (event-fits _ (h .higher))
 
-  switch-width : length (right 2 (printNumber (l .switch))) ≡ 2
+  pub switch-width : length (right 2 (printNumber (l .switch))) ≡ 2
   switch-width = right-length 2 _ (switch-fits _ (h .switch))
 
-  lower-word-width : length (left 5 (wordText (l .lower .word))) ≡ 5
+  pub lower-word-width : length (left 5 (wordText (l .lower .word))) ≡ 5
   lower-word-width = left-length 5 _ (word-fits (l .lower .word))
 
-  higher-word-width : length (left 5 (wordText (l .higher .word))) ≡ 5
+  pub higher-word-width : length (left 5 (wordText (l .higher .word))) ≡ 5
   higher-word-width = left-length 5 _ (word-fits (l .higher .word))
 
-  lower-priority-width : length (right 5 (priorityText (l .lower .priority))) ≡ 5
+  pub lower-priority-width : length (right 5 (priorityText (l .lower .priority))) ≡ 5
   lower-priority-width = right-length 5 _ (priority-fits (l .lower .priority) (h .lowerPriority))
 
-  higher-priority-width : length (right 5 (priorityText (l .higher .priority))) ≡ 5
+  pub higher-priority-width : length (right 5 (priorityText (l .higher .priority))) ≡ 5
   higher-priority-width = right-length 5 _ (priority-fits (l .higher .priority) (h .higherPriority))
 
   pair-widths : widths (pairFields l) ≡ lineWidths

@@ -1,25 +1,24 @@
 // The line of a listed pair, put at a place of a buffer.
 use crate::line::PairLine;
 use crate::line::Priority;
-use page_columns::put_blanks;
+use page_columns::put_block;
 use page_columns::put_in_five;
 use page_columns::put_in_three;
 use page_columns::put_in_two;
 use page_columns::put_left;
-use page_columns::put_number_right;
 use page_columns::put_right;
 use text_numbers::put_byte;
 use trace_words::SwitchWord;
 use trace_words::Word;
 use trace_words::Write;
 ghost use mathlib.Core.List.{[], _∷_, _++_};
+ghost use mathlib.Core.Path.{_≡_};
 ghost use Prim.Native.Nat.{_+_, _≤_, _<_, _^_};
 ghost use Rattle.text_numbers.specs.Inner.{Put};
-ghost use Rattle.text_numbers.specs.Print.{printNumber};
 ghost use Rattle.trace_words.specs.Words.{switchWordText, wordText};
 ghost use Rattle.page_columns.specs.Columns.{right, left};
 ghost use Rattle.page_lines.specs.PairLines.{priorityText, pairText};
-ghost use Rattle.page_lines.specs.Inner.{numbersText, wordsText};
+ghost use Rattle.page_lines.specs.Inner.{LineInRange};
 
 fn put_write(out: &mut [u8], at: usize, w: Write) -> usize
     requires { ⌜ at < 2 ^ 31 ⌝ }
@@ -73,37 +72,10 @@ fn put_priority(out: &mut [u8], at: usize, p: Priority) -> usize
     }
 }
 
-// A switch, right-justified in two columns.
-fn put_switch(out: &mut [u8], at: usize, w: u8) -> usize
-    requires { ⌜ at < 2 ^ 31 ⌝ }
-    ensures { λ r. ⌜ Put (right 2 (printNumber w)) at (now (out .entry)) r (now (out .exit)) ⌝ }
-    ensures { λ r. ⌜ r ≤ at + 80 ⌝ }
-{
-    if w < 100 {
-        return put_in_two(out, at, w as usize);
-    }
-    put_number_right(out, at, 2, w as usize)
-}
-
-// Columns 1 to 11: the events and the switch.
-fn put_numbers(out: &mut [u8], at: usize, l: PairLine) -> usize
-    requires { ⌜ at < 2 ^ 30 ⌝ }
-    ensures { λ r. ⌜ Put (numbersText l) at (now (out .entry)) r (now (out .exit)) ⌝ }
-    ensures { λ r. ⌜ r ≤ at + 420 ⌝ }
-{
-    let n = put_in_three(out, at, l.lower.event as usize);
-    let n = put_blanks(out, n, 1);
-    let n = put_in_three(out, n, l.higher.event as usize);
-    let n = put_blanks(out, n, 1);
-    let n = put_switch(out, n, l.switch);
-    put_blanks(out, n, 1)
-}
-
-// Columns 12 to 60: the words and the priorities.
-fn put_words(out: &mut [u8], at: usize, l: PairLine) -> usize
-    requires { ⌜ at < 2 ^ 30 + 1000 ⌝ }
-    ensures { λ r. ⌜ Put (wordsText l) at (now (out .entry)) r (now (out .exit)) ⌝ }
-    ensures { λ r. ⌜ r ≤ at + 440 ⌝ }
+// The line of a pair and its LF: what it says is put into blanks, each part in its columns.
+fn made_line(l: PairLine) -> [u8; 61]
+    requires { ⌜ LineInRange l ⌝ }
+    ensures { λ r. ⌜ r ≡ pairText l ++ (10 ∷ []) ⌝ }
 {
     let lower = l.lower;
     let higher = l.higher;
@@ -111,22 +83,23 @@ fn put_words(out: &mut [u8], at: usize, l: PairLine) -> usize
     let other_word = higher.word;
     let priority = lower.priority;
     let other_priority = higher.priority;
-    let n = put_word(out, at, word);
-    let n = put_word(out, n, other_word);
-    let n = put_priority(out, n, priority);
-    let n = put_blanks(out, n, 1);
-    let n = put_priority(out, n, other_priority);
-    put_blanks(out, n, 28)
+    let mut line = [b' '; 61];
+    put_in_three(&mut line, 0, lower.event as usize);
+    put_in_three(&mut line, 4, higher.event as usize);
+    put_in_two(&mut line, 8, l.switch as usize);
+    put_word(&mut line, 11, word);
+    put_word(&mut line, 16, other_word);
+    put_priority(&mut line, 21, priority);
+    put_priority(&mut line, 27, other_priority);
+    put_byte(&mut line, 60, b'\n');
+    line
 }
 
-// The line and its LF.
 pub fn put_pair_line(out: &mut [u8], at: usize, l: PairLine) -> usize
-    requires { ⌜ at < 2 ^ 30 ⌝ }
+    requires { ⌜ (at < 2 ^ 31) × LineInRange l ⌝ }
     ensures { λ r. ⌜ Put (pairText l ++ (10 ∷ [])) at (now (out .entry)) r (now (out .exit)) ⌝ }
-    ensures { λ r. ⌜ r ≤ at + 1000 ⌝ }
+    ensures { λ r. ⌜ r ≡ at + 61 ⌝ }
 {
-    let n = put_numbers(out, at, l);
-    let m = put_words(out, n, l);
-    put_byte(out, m, b'\n');
-    m + 1
+    let line = made_line(l);
+    put_block(out, at, &line)
 }

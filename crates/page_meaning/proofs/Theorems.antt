@@ -45,7 +45,7 @@ module _ (s : List ℕ) (es : List Event) (h : readTrace s ≡ inr es) where
   few = trace-accepted-iff s es .0 h .few
 
   range : AllInRange (pairLines es)
-  range = lines-range es few (events-in-range s es h)
+  range = lines-range es (events-in-range s es h) few
 
   small : Small (countsOf es)
   unfolding countsOf

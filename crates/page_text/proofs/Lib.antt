@@ -1,6 +1,6 @@
+pub mod Ranges
 pub mod Turns
 pub mod Putting
-pub mod Ranges
 pub mod Sizes
 pub mod Lines
 pub mod Unique

@@ -33,8 +33,8 @@ abbrev pub AllInRange : List PairLine → Type 0
 AllInRange [] = Unit {0}
 AllInRange (l ∷ ls) = LineInRange l × AllInRange ls
 
-module _ (es : List Event) (few : length es ≤ 256) (range : (i : ℕ) → EventInRange (eventAt es i)) where
-  said-range : (p : Pair) → p .lower < 256 → p .higher < 256 → LineInRange (saidOf es p)
+module _ (es : List Event) (range : (i : ℕ) → EventInRange (eventAt es i)) where
+  pub said-range : (p : Pair) → p .lower < 256 → p .higher < 256 → LineInRange (saidOf es p)
   unfolding pairLineOf mentionOf
   said-range p a b = record {
     lower = a;
@@ -50,6 +50,6 @@ module _ (es : List Event) (few : length es ≤ 256) (range : (i : ℕ) → Even
       let q = h (p .lower) (p .higher) (List·Memᴰ·head refl) in
       (said-range p (q .0) (q .1), all-range ps (λ i j m. h i j (List·Memᴰ·tail m)))
 
-  pub lines-range : AllInRange (pairLines es)
+  pub lines-range : length es ≤ 256 → AllInRange (pairLines es)
   unfolding pairLines
-  lines-range = all-range (listOf es) (λ i j m. let q = pairs-in (test listed es) (length es) i j .0 m in (omega (arith, q .0, q .1), omega (arith, q .1)))
+  lines-range few = all-range (listOf es) (λ i j m. let q = pairs-in (test listed es) (length es) i j .0 m in (omega (arith, q .0, q .1), omega (arith, q .1)))

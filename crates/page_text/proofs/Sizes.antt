@@ -31,7 +31,7 @@ wide-pairs [] h = tt
 wide-pairs (l ∷ ls) h = (pair-length l (h .0), wide-pairs ls (h .1))
 
 -- a number has at most 20 digits, so that 40 bytes are left for the name
-pub count-length : (name : List ℕ) (n : ℕ) → length name ≤ 40 → length (countText name n) ≡ 60
+count-length : (name : List ℕ) (n : ℕ) → length name ≤ 40 → length (countText name n) ≡ 60
 unfolding countText
 count-length name n h =
     let e : length (printNumber n) ≤ 60 - length name = omega (arith, print-length n) in

@@ -5,13 +5,15 @@ use trace_events::Trace;
 ghost use Prim.Native.Nat.{ℕ, _<_, _≤_, _^_};
 ghost use lib.ListN.{length, getD};
 ghost use Rattle.text_numbers.specs.Inner.{Put};
-ghost use Rattle.trace_events.specs.Events.{eventsOf};
+ghost use Rattle.trace_events.specs.Events.{eventAt, eventsOf};
+ghost use Rattle.trace_line.specs.Written.{EventInRange};
 ghost use Rattle.page_text.specs.Inner.{pairsText};
 
 // A line for each pair of a list, two bytes a pair, each an event of the trace.
 pub fn put_pairs(out: &mut [u8], t: Trace, list: &[u8]) -> usize
     requires { ⌜ (t .len ≤ 256) × (length (now list) ≤ 131072) ⌝ }
     requires { ⌜ ((k : ℕ) → k < length (now list) → getD (now list) k 0 < t .len) ⌝ }
+    requires { ⌜ ((i : ℕ) → EventInRange (eventAt (eventsOf t) i)) ⌝ }
     ensures { λ r. ⌜ Put (pairsText (eventsOf t) (now (list .entry))) 0 (now (out .entry)) r (now (out .exit)) ⌝ }
     ensures { λ r. ⌜ r < 2 ^ 30 ⌝ }
 {

@@ -24,7 +24,7 @@ put-pairs-requires c κs =
     let list = c .before .before .before .before .before .before in
     let start = list .before .before .before .before in
     let made = list .list-of in
-    ((start .pre .few, list-fits _ (made .result) _ (made .ensures) 131072 (omega (arith, made .ensures .most))), list-inside (start .args .t) _ (list-is _ (made .result) _ (made .ensures)))
+    ((start .pre .few, list-fits _ (made .result) _ (made .ensures) 131072 (omega (arith, made .ensures .most))), (list-inside (start .args .t) _ (list-is _ (made .result) _ (made .ensures)), start .pre .range))
 
 returns-2 : tie.Need-returns-2
 returns-2 c =

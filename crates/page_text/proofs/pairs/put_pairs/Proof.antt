@@ -7,23 +7,24 @@ use lib.ListN.{length, drop, getD}
 use Rattle.basics.proofs.Arrays.{length-mapped}
 use Rattle.text_numbers.specs.Inner.{Put}
 use Rattle.text_numbers.proofs.Writing.{put-none, put-length}
-use Rattle.trace_events.specs.Events.{eventsOf}
+use Rattle.trace_events.specs.Events.{eventsOf, eventAt}
+use Rattle.trace_line.specs.Written.{EventInRange}
 use Rattle.list_pairs.specs.List.{eachPair}
 use Rattle.list_pairs.proofs.EachPair.{pairs-turn, pairs-done}
 use Rattle.page_text.specs.Types.{Trace}
 use Rattle.page_text.specs.Inner.{lineOfPair, pairsText}
-use Rattle.page_text.proofs.Turns.{line-made}
+use Rattle.page_text.proofs.Turns.{line-range, line-made}
 use borrow.Author.Needs.{needs}
 use Rattle.page_text.proofs.pairs.put_pairs.Statement.{statement}
 use Rattle.page_text.proofs.pairs.put_pairs.Tie as tie
 
--- each byte of the list is an event of the trace
+-- each byte of the list is an event of the trace, and these are in range
 abbrev Inside : Trace → List ℕ → Type 0
-Inside t list = (t .len ≤ 256) × (length (t .events) ≡ 256) × ((k : ℕ) → k < length list → getD list k 0 < t .len)
+Inside t list = (t .len ≤ 256) × (length (t .events) ≡ 256) × ((k : ℕ) → k < length list → getD list k 0 < t .len) × ((i : ℕ) → EventInRange (eventAt (eventsOf t) i))
 
 abbrev Inv-loop : tie.InvT-loop
 Inv-loop out₀ list t at₀ i₀ out at i =
-    (i ≤ length list) × (at ≤ 500 * i) × (length list ≤ 131072) × Inside t list
+    (i ≤ length list) × (at ≤ 31 * i) × (length list ≤ 131072) × Inside t list
     × ((w : List ℕ) × Put w 0 out₀ at out × (w ++ eachPair (lineOfPair (eventsOf t)) (drop i list) ≡ eachPair (lineOfPair (eventsOf t)) list))
 
 abbrev μ-loop : tie.MeasureT-loop
@@ -32,7 +33,7 @@ abbrev μ-loop : tie.MeasureT-loop
 loop-holds : tie.Need-loop-holds Inv-loop μ-loop
 loop-holds c =
     let pre = c .before .before .pre in
-    (omega arith, omega arith, pre .0 .1, (pre .0 .0, search (needs, length-mapped), pre .1), ([], put-none 0 _, refl))
+    (omega arith, omega arith, pre .0 .1, (pre .0 .0, search (needs, length-mapped), pre .1 .0, pre .1 .1), ([], put-none 0 _, refl))
 
 -- the events of the pair stand in the array
 low : (c : tie.After-shared-slice-known3 Inv-loop μ-loop) → getD (c .before .before .before .before .before .before .args .list .now) (c .before .before .before .loop .i) 0 < 256
@@ -40,6 +41,14 @@ low c = let l = c .before .before .before .loop in omega (arith, l .inv .3 .2 (l
 
 high : (c : tie.After-shared-slice-known3 Inv-loop μ-loop) → getD (c .before .before .before .before .before .before .args .list .now) (c .before .before .before .loop .i + 1) 0 < 256
 high c = let l = c .before .before .before .loop in omega (arith, l .inv .3 .2 (l .i + 1) (omega arith), l .inv .3 .0)
+
+put-pair-line-requires : tie.Need-put-pair-line-requires Inv-loop μ-loop
+put-pair-line-requires c κs =
+    let l = c .before .before .before .before .before .before .before .loop in
+    let a = c .before .before .before .before .before .before .before .before .before .before .args in (
+      omega arith,
+      line-range (a .t2) (a .list .now) (l .i) (l .inv .3 .2 (l .i) (omega arith)) (l .inv .3 .2 (l .i + 1) (omega arith)) (c .before .pair-line .ensures) (l .inv .3 .0) (l .inv .3 .3),
+    )
 
 loop-again : tie.Need-loop-again Inv-loop μ-loop
 loop-again c =
@@ -68,7 +77,8 @@ put-pairs-spec =
     (tie.spec
     Inv-loop
     μ-loop
-    loop-holds (λ c. omega arith) (λ c. omega arith) (λ c. omega arith) (λ c. omega arith) (λ c. omega (arith, low c)) (λ c. omega (arith, low c)) (λ c. low c) (λ c. omega (arith, high (c .before))) (λ c. omega (arith, high (c .before))) (λ c. high (c .before)) (λ c κs. search needs) (λ c κs. omega arith) (λ c. omega arith) (λ c. omega arith)
+    loop-holds (λ c. omega arith) (λ c. omega arith) (λ c. omega arith) (λ c. omega arith) (λ c. omega (arith, low c)) (λ c. omega (arith, low c)) (λ c. low c) (λ c. omega (arith, high (c .before))) (λ c. omega (arith, high (c .before))) (λ c. high (c .before)) (λ c κs. search needs)
+    put-pair-line-requires (λ c. omega arith) (λ c. omega arith)
     loop-again
     same-length
     returns)

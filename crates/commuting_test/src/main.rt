@@ -7,6 +7,7 @@ use flow::Key;
 use flow::Match;
 use flow::Packet;
 use flow::Prefix;
+use flow_table::Origin;
 use flow_table::TableOperation;
 use flow_table::table_effect;
 use libc::STDOUT_FILENO;
@@ -169,7 +170,7 @@ fn operation(digits: u32) -> TableOperation {
         action: Action::Port(digit(digits) as u16),
     };
     match digit(digits / 4096) {
-        0 => TableOperation::Packet(packet(m)),
+        0 => TableOperation::Packet(Origin::Received, packet(m)),
         1 => TableOperation::Add(e),
         2 => TableOperation::AddChecked(e),
         3 => TableOperation::ModifyStrict(e),

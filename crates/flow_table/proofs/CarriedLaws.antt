@@ -4,7 +4,7 @@ use Rattle.flow_table.specs.Carried.{carriedOf, CarriedInRange}
 use Rattle.flow_table.specs.FlowTable.{tableEffect, EffectInRange}
 
 pub effect-range : (o : TableOperation) → CarriedInRange (carriedOf o) → EffectInRange (tableEffect o)
-effect-range (TableOperation.Packet p) r = r
+effect-range (TableOperation.Packet g p) r = r
 effect-range (TableOperation.Add e) r = r
 effect-range (TableOperation.AddChecked e) r = r
 effect-range (TableOperation.ModifyStrict e) r = r

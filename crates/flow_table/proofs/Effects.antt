@@ -2,13 +2,14 @@
 use mathlib.Core.Path.{_≡_, refl, ap}
 use mathlib.Core.Bool.{Bool, true, false, cond}
 use mathlib.Core.List.{[], _∷_}
-use Prim.Native.Nat.{suc, _≤_}
+use Prim.Native.Nat.{ℕ, suc, _≤_}
 use native.Mathlib.Omega.{arith}
 use lib.ListN.{length}
 use Rattle.basics.proofs.Booleans.{split}
 use Rattle.flow.specs.Entries.{keyOrder, sameKey}
-use Rattle.flow_table.specs.Types.{Action, Key, Entry, Ordering, TableOperation, Effect}
+use Rattle.flow_table.specs.Types.{Packet, Action, Key, Entry, Ordering, Origin, TableOperation, Operation, Effect}
 use Rattle.flow_table.specs.FlowTable.{Table, entry, Sorted, insertBy, insert, removeIf, assignIf, anyOf, inside, clash, tableEffect, after, get, foundAfter}
+use Rattle.flow_table.specs.Switches.{Tables, stepOf, answerOf}
 use Rattle.flow_table.proofs.TableLaws.{sorted-insert, sorted-remove, sorted-assign, get-insert, get-remove, get-assign}
 
 -- what the operations do, by the test that they make
@@ -86,3 +87,16 @@ get-after Effect.Idle k t = refl
 -- `mods` reads as `add`
 pub mods-is-add : (e : Entry) → tableEffect (TableOperation.ModifyStrict e) ≡ tableEffect (TableOperation.Add e)
 mods-is-add e = refl
+
+-- `pout` reads as `pkt`: on every switch, whatever the tables, it leaves and answers what a `pkt` of the same packet does
+pub pout-is-pkt : (p : Packet) → tableEffect (TableOperation.Packet Origin.SentOut p) ≡ tableEffect (TableOperation.Packet Origin.Received p)
+pout-is-pkt p = refl
+
+module _ (w : ℕ) (p : Packet) (s : Tables) where
+  pub pout-steps : stepOf (Operation.Table w (TableOperation.Packet Origin.SentOut p)) s ≡ stepOf (Operation.Table w (TableOperation.Packet Origin.Received p)) s
+  unfolding stepOf
+  pout-steps = refl
+
+  pub pout-answers : answerOf (Operation.Table w (TableOperation.Packet Origin.SentOut p)) s ≡ answerOf (Operation.Table w (TableOperation.Packet Origin.Received p)) s
+  unfolding answerOf
+  pout-answers = refl

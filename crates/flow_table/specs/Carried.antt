@@ -1,12 +1,12 @@
--- Document 01, "Trace text": `pkt` has the six fields; writes have prio, those six, act (`dels` has no act; `deln` neither prio
--- nor act).
+-- Document 01, "Trace text": `pkt` and `pout` have the six fields; writes have prio, those six, act (`dels` has no act; `deln`
+-- neither prio nor act).
 use Rattle.flow.specs.Matches.{MatchInRange, PacketInRange}
 use Rattle.flow.specs.Entries.{KeyInRange, ActionInRange}
 use Rattle.flow_table.specs.Types.{TableOperation, Carried}
 
 -- what a table operation carries
 abbrev pub carriedOf : TableOperation → Carried
-carriedOf (TableOperation.Packet p) = Carried.Packet p
+carriedOf (TableOperation.Packet g p) = Carried.Packet p
 carriedOf (TableOperation.Add e) = Carried.Entry e
 carriedOf (TableOperation.AddChecked e) = Carried.Entry e
 carriedOf (TableOperation.ModifyStrict e) = Carried.Entry e

@@ -94,9 +94,10 @@ firstAt n (e ∷ t) = Answer.Hit n (suc (length t)) (e .action)
 unfoldable pub best : Table → Answer
 best t = firstAt (highest t) (atPriority (highest t) t)
 
--- ---- what an event does to its switch's table, by document 01's words (`Effect`, src/effect.rt); `mods` reads as `add`
+-- ---- what an event does to its switch's table, by document 01's words (`Effect`, src/effect.rt); `mods` reads as `add`, and
+-- `pout` as `pkt`
 abbrev pub tableEffect : TableOperation → Effect
-tableEffect (TableOperation.Packet p) = Effect.Pkt p
+tableEffect (TableOperation.Packet g p) = Effect.Pkt p
 tableEffect (TableOperation.Add e) = Effect.Add (e .key) (e .action)
 tableEffect (TableOperation.AddChecked e) = Effect.Addc (e .key) (e .action)
 tableEffect (TableOperation.ModifyStrict e) = Effect.Add (e .key) (e .action)

@@ -52,7 +52,7 @@ pub record Hits (p : Packet) (t : Table) (n c : ℕ) (a : Action) : Type 0 where
   pub is-first : First (FitsAt p n) t first
   pub its-action : first .action ≡ a
 
--- `pkt`: a miss if no entry fits
+-- `pkt` and `pout`: a miss if no entry fits
 abbrev pub Meets : Packet → Table → Answer → Type 0
 Meets p t Answer.Silent = ⊥
 Meets p t Answer.Miss = None (Fits p) t
@@ -67,7 +67,7 @@ Checks k t (Answer.Hit n c a) = ⊥
 Checks k t (Answer.Done true) = None (Clashes k) t
 Checks k t (Answer.Done false) = Some (Clashes k) t
 
--- r is the event's answer; only `pkt` and `addc` have one
+-- r is the event's answer; only `pkt`, `pout` and `addc` have one
 abbrev pub Answers : Effect → Table → Answer → Type 0
 Answers (Effect.Pkt p) t r = Meets p t r
 Answers (Effect.Add k a) t r = r ≡ Answer.Silent

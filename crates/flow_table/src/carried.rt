@@ -7,7 +7,7 @@ use flow::Packet;
 ghost use mathlib.Core.Path.{_≡_};
 ghost use Rattle.flow_table.specs.Carried.{carriedOf};
 
-// `pkt` a packet; `add`, `addc`, `mods` and `modn` an entry; `dels` a key; `deln` a match.
+// `pkt` and `pout` a packet; `add`, `addc`, `mods` and `modn` an entry; `dels` a key; `deln` a match.
 pub enum Carried {
     Packet(Packet),
     Entry(Entry),
@@ -19,7 +19,7 @@ pub fn carried_by(o: TableOperation) -> Carried
     ensures { λ r. ⌜ r ≡ carriedOf o ⌝ }
 {
     match o {
-        TableOperation::Packet(p) => Carried::Packet(p),
+        TableOperation::Packet(_, p) => Carried::Packet(p),
         TableOperation::Add(e) => Carried::Entry(e),
         TableOperation::AddChecked(e) => Carried::Entry(e),
         TableOperation::ModifyStrict(e) => Carried::Entry(e),

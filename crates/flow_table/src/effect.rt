@@ -8,7 +8,7 @@ use flow::Packet;
 ghost use mathlib.Core.Path.{_≡_};
 ghost use Rattle.flow_table.specs.FlowTable.{tableEffect, effectOf};
 
-// By document 01's words; `mods` reads as `add`; `oth`, `bar` and `msg` do nothing.
+// By document 01's words; `mods` reads as `add`, `pout` as `pkt`; `oth`, `bar` and `msg` do nothing.
 pub enum Effect {
     Pkt(Packet),
     Add(Key, Action),
@@ -23,7 +23,7 @@ pub fn table_effect(o: TableOperation) -> Effect
     ensures { λ r. ⌜ r ≡ tableEffect o ⌝ }
 {
     match o {
-        TableOperation::Packet(p) => Effect::Pkt(p),
+        TableOperation::Packet(_, p) => Effect::Pkt(p),
         TableOperation::Add(e) => {
             let k = e.key;
             let a = e.action;

@@ -12,4 +12,5 @@ pub use effect::table_effect;
 pub use keys::clash;
 pub use operation::Answer;
 pub use operation::Operation;
+pub use operation::Origin;
 pub use operation::TableOperation;

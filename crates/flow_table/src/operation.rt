@@ -5,9 +5,15 @@ use flow::Key;
 use flow::Match;
 use flow::Packet;
 
-// An operation on one switch's table: `pkt`, `add`, `addc`, `mods`, `modn`, `dels`, `deln`.
+// Where a packet that meets a table came from: received by the switch, `pkt`, or sent out by the controller, `pout`.
+pub enum Origin {
+    Received,
+    SentOut,
+}
+
+// An operation on one switch's table: `pkt` and `pout`, `add`, `addc`, `mods`, `modn`, `dels`, `deln`.
 pub enum TableOperation {
-    Packet(Packet),
+    Packet(Origin, Packet),
     Add(Entry),
     AddChecked(Entry),
     ModifyStrict(Entry),

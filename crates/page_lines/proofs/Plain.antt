@@ -11,7 +11,7 @@ use Rattle.text_lines.specs.Inner.{newlines}
 use Rattle.text_lines.proofs.Lines.{newlines-append}
 use Rattle.trace_words.specs.Words.{wordText}
 use Rattle.page_columns.specs.Columns.{blanks, right, left, beside}
-use Rattle.page_lines.specs.Types.{Word, SwitchWord, Write, Priority, PairLine}
+use Rattle.page_lines.specs.Types.{Origin, Word, SwitchWord, Write, Priority, PairLine}
 use Rattle.page_lines.specs.PairLines.{priorityText, pairFields, pairText}
 
 -- one text behind another
@@ -53,7 +53,8 @@ unfolding newlines
 word-plain Word.Other = refl
 word-plain (Word.On SwitchWord.Barrier) = refl
 word-plain (Word.On SwitchWord.Message) = refl
-word-plain (Word.On SwitchWord.Packet) = refl
+word-plain (Word.On (SwitchWord.Packet Origin.Received)) = refl
+word-plain (Word.On (SwitchWord.Packet Origin.SentOut)) = refl
 word-plain (Word.On (SwitchWord.Write Write.Add)) = refl
 word-plain (Word.On (SwitchWord.Write Write.AddChecked)) = refl
 word-plain (Word.On (SwitchWord.Write Write.ModifyStrict)) = refl

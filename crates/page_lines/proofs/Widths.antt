@@ -5,7 +5,7 @@ use lib.ListN.{length}
 use Rattle.text_numbers.specs.Print.{printNumber}
 use Rattle.text_numbers.proofs.Print.{print-short}
 use Rattle.trace_words.specs.Words.{wordText}
-use Rattle.page_lines.specs.Types.{Word, SwitchWord, Write, Priority}
+use Rattle.page_lines.specs.Types.{Origin, Word, SwitchWord, Write, Priority}
 use Rattle.page_lines.specs.PairLines.{priorityText}
 use Rattle.page_lines.specs.Inner.{PriorityInRange}
 
@@ -14,7 +14,8 @@ pub word-short : (w : Word) → length (wordText w) ≤ 4
 word-short Word.Other = omega arith
 word-short (Word.On SwitchWord.Barrier) = omega arith
 word-short (Word.On SwitchWord.Message) = omega arith
-word-short (Word.On SwitchWord.Packet) = omega arith
+word-short (Word.On (SwitchWord.Packet Origin.Received)) = omega arith
+word-short (Word.On (SwitchWord.Packet Origin.SentOut)) = omega arith
 word-short (Word.On (SwitchWord.Write Write.Add)) = omega arith
 word-short (Word.On (SwitchWord.Write Write.AddChecked)) = omega arith
 word-short (Word.On (SwitchWord.Write Write.ModifyStrict)) = omega arith

@@ -1,4 +1,5 @@
 -- The types that this crate's definitions speak of, under one name each.
+pub use Rattle.flow_table.specs.declared.operation.Origin.{Origin}
 pub use Rattle.flow_table.specs.declared.operation.TableOperation.{TableOperation}
 pub use Rattle.flow_table.specs.declared.operation.Operation.{Operation}
 pub use Rattle.flow_table.specs.declared.carried.Carried.{Carried}

@@ -8,7 +8,7 @@ use trace_words::word_of;
 ghost use mathlib.Core.Path.{_≡_};
 ghost use Rattle.page_lines.specs.PairLines.{priorityIn, priorityOf, mentionOf, pairLineOf};
 
-// The priority of a write; `pkt` and `deln` have none.
+// The priority of a write; `pkt`, `pout` and `deln` have none.
 pub enum Priority {
     Absent,
     Of(u16),

@@ -1,6 +1,7 @@
 // The line of a listed pair, put at a place of a buffer.
 use crate::line::PairLine;
 use crate::line::Priority;
+use flow_table::Origin;
 use page_columns::put_block;
 use page_columns::put_in_five;
 use page_columns::put_in_three;
@@ -33,6 +34,17 @@ fn put_write(out: &mut [u8], at: usize, w: Write) -> usize
     }
 }
 
+fn put_packet(out: &mut [u8], at: usize, g: Origin) -> usize
+    requires { ⌜ at < 2 ^ 31 ⌝ }
+    ensures { λ r. ⌜ Put (left 5 (switchWordText (SwitchWord.Packet g))) at (now (out .entry)) r (now (out .exit)) ⌝ }
+    ensures { λ r. ⌜ r ≤ at + 80 ⌝ }
+{
+    match g {
+        Origin::Received => put_left(out, at, 5, b"pkt"),
+        Origin::SentOut => put_left(out, at, 5, b"pout"),
+    }
+}
+
 fn put_switch_word(out: &mut [u8], at: usize, w: SwitchWord) -> usize
     requires { ⌜ at < 2 ^ 31 ⌝ }
     ensures { λ r. ⌜ Put (left 5 (switchWordText w)) at (now (out .entry)) r (now (out .exit)) ⌝ }
@@ -41,7 +53,7 @@ fn put_switch_word(out: &mut [u8], at: usize, w: SwitchWord) -> usize
     match w {
         SwitchWord::Barrier => put_left(out, at, 5, b"bar"),
         SwitchWord::Message => put_left(out, at, 5, b"msg"),
-        SwitchWord::Packet => put_left(out, at, 5, b"pkt"),
+        SwitchWord::Packet(origin) => put_packet(out, at, origin),
         SwitchWord::Write(write) => put_write(out, at, write),
         SwitchWord::DeleteStrict => put_left(out, at, 5, b"dels"),
         SwitchWord::Delete => put_left(out, at, 5, b"deln"),

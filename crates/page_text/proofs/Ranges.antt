@@ -20,7 +20,7 @@ priority-range : (o : Operation) → EffectInRange (effectOf o) → PriorityInRa
 priority-range Operation.Other h = tt
 priority-range (Operation.Barrier w) h = tt
 priority-range (Operation.Message w) h = tt
-priority-range (Operation.Table w (TableOperation.Packet p)) h = tt
+priority-range (Operation.Table w (TableOperation.Packet g p)) h = tt
 priority-range (Operation.Table w (TableOperation.Add e)) h = h .0 .priority
 priority-range (Operation.Table w (TableOperation.AddChecked e)) h = h .0 .priority
 priority-range (Operation.Table w (TableOperation.ModifyStrict e)) h = h .0 .priority

@@ -1,4 +1,4 @@
--- Document 01, "Tables and replay": the answer lines, by rising event; only `pkt` and `addc` events have one.
+-- Document 01, "Tables and replay": the answer lines, by rising event; only `pkt`, `pout` and `addc` events have one.
 use mathlib.Core.Bool.{Bool, true, false, cond}
 use mathlib.Core.List.{List, [], _++_}
 use Prim.Native.Nat.{ℕ, zero, suc}
@@ -8,7 +8,7 @@ use Rattle.text_fields.specs.Print.{printAction}
 use Rattle.flow_table.specs.FlowTable.{effectOf}
 use Rattle.replay_answers.specs.Types.{Operation, Answer, Effect}
 
--- only `pkt` and `addc` events have an answer
+-- only `pkt`, `pout` and `addc` events have an answer
 abbrev pub answersAs : Effect → Bool
 answersAs (Effect.Pkt p) = true
 answersAs (Effect.Add k a) = false

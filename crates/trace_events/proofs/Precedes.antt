@@ -2,14 +2,14 @@
 use Prim.Native.Nat.{ℕ}
 use mathlib.Core.Path.{_≡_, refl, sym, ap, _∙_}
 use mathlib.Core.Logic.{_↔_, _⊎_, inl, inr, ⊎-elim}
-use mathlib.Core.Bool.{true, _&&_, _||_, or-true, false≢true}
+use mathlib.Core.Bool.{true, false, _&&_, _||_, or-true, false≢true}
 use lib.Dec.{eqb}
 use borrow.Author.Tests.{eqb-true, eq-eqb}
 use Rattle.flow_table.specs.Switches.{switchOf}
-use Rattle.basics.proofs.Booleans.{and-left, and-right, and-intro, or-cases}
+use Rattle.basics.proofs.Booleans.{and-left, and-right, and-intro, and-true, and-false-right, or-cases}
 use Rattle.basics.proofs.Searches.{has-iff, shares-found, shares-at}
-use Rattle.trace_events.specs.Types.{TableOperation, Operation, Head, Event}
-use Rattle.trace_events.specs.Events.{tokensOf, isBarrier, isWrite, barrierOrders}
+use Rattle.trace_events.specs.Types.{Packet, Origin, TableOperation, Operation, Head, Event}
+use Rattle.trace_events.specs.Events.{tokensOf, isBarrier, isMessage, barrierOrders}
 use Rattle.trace_events.specs.Precedence.{barrierStep, tokenStep, precedes, Write, Among, BarrierJoins, TokenPasses, DirectlyPrecedes}
 
 -- ---- tokens
@@ -23,33 +23,35 @@ token-iff a b = (
 )
 
 -- ---- barriers
-write-of : (o : TableOperation) → isWrite o ≡ true → Write o
-write-of (TableOperation.Packet p) e = absurd (false≢true e)
-write-of (TableOperation.Add n) e = Write.add
-write-of (TableOperation.AddChecked n) e = Write.addc
-write-of (TableOperation.ModifyStrict n) e = Write.mods
-write-of (TableOperation.Modify n) e = Write.modn
-write-of (TableOperation.DeleteStrict k) e = Write.dels
-write-of (TableOperation.Delete m) e = Write.deln
+message-of : (w : ℕ) (o : TableOperation) → isMessage o ≡ true → Among w (Operation.Table w o)
+message-of w (TableOperation.Packet Origin.Received p) e = absurd (false≢true e)
+message-of w (TableOperation.Packet Origin.SentOut p) e = Among.pout
+message-of w (TableOperation.Add n) e = Among.write Write.add
+message-of w (TableOperation.AddChecked n) e = Among.write Write.addc
+message-of w (TableOperation.ModifyStrict n) e = Among.write Write.mods
+message-of w (TableOperation.Modify n) e = Among.write Write.modn
+message-of w (TableOperation.DeleteStrict k) e = Among.write Write.dels
+message-of w (TableOperation.Delete m) e = Among.write Write.deln
 
-is-write : {o : TableOperation} → Write o → isWrite o ≡ true
-is-write Write.add = refl
-is-write Write.addc = refl
-is-write Write.mods = refl
-is-write Write.modn = refl
-is-write Write.dels = refl
-is-write Write.deln = refl
+is-message : {o : TableOperation} → Write o → isMessage o ≡ true
+is-message Write.add = refl
+is-message Write.addc = refl
+is-message Write.mods = refl
+is-message Write.modn = refl
+is-message Write.dels = refl
+is-message Write.deln = refl
 
 among-of : (o : Operation) → barrierOrders o ≡ true → Among (switchOf o) o
 among-of Operation.Other e = absurd (false≢true e)
 among-of (Operation.Barrier w) e = Among.bar
 among-of (Operation.Message w) e = Among.msg
-among-of (Operation.Table w o) e = Among.write (write-of o e)
+among-of (Operation.Table w o) e = message-of w o e
 
 is-among : {w : ℕ} {o : Operation} → Among w o → (switchOf o ≡ w) × (barrierOrders o ≡ true)
-is-among (Among.write u) = (refl, is-write u)
+is-among (Among.write u) = (refl, is-message u)
 is-among Among.bar = (refl, refl)
 is-among Among.msg = (refl, refl)
+is-among Among.pout = (refl, refl)
 
 barrier-of : (o : Operation) → isBarrier o ≡ true → o ≡ Operation.Barrier (switchOf o)
 barrier-of Operation.Other e = absurd (false≢true e)
@@ -91,6 +93,31 @@ module _ (o p : Operation) where
         let g = is-among (j .second) in
         and-intro (and-intro (and-intro (eq-eqb (switchOf o) (switchOf p) (f .0 ∙ sym (g .0))) (f .1)) (g .1)) (one-barrier (j .switch) (j .one-is-bar)),
   )
+
+-- a barrier and a packet sent out: a step exactly where they are of one switch, whichever comes first
+module _ (v w : ℕ) (p : Packet) where
+  pub barrier-orders-pout : barrierStep (Operation.Barrier v) (Operation.Table w (TableOperation.Packet Origin.SentOut p)) ≡ eqb v w
+  unfolding barrierStep
+  barrier-orders-pout = and-true _ ∙ and-true _ ∙ and-true _
+
+  pub pout-before-barrier : barrierStep (Operation.Table w (TableOperation.Packet Origin.SentOut p)) (Operation.Barrier v) ≡ eqb w v
+  unfolding barrierStep
+  pout-before-barrier = and-true _ ∙ and-true _ ∙ and-true _
+
+-- no step begins or ends at a packet received
+module _ (o : Operation) (w : ℕ) (p : Packet) where
+  pub barrier-passes-pkt : barrierStep o (Operation.Table w (TableOperation.Packet Origin.Received p)) ≡ false
+  unfolding barrierStep
+  barrier-passes-pkt = rw (and-false-right (eqb (switchOf o) w && barrierOrders o) refl) refl
+
+  pub pkt-passes-barrier : barrierStep (Operation.Table w (TableOperation.Packet Origin.Received p)) o ≡ false
+  unfolding barrierStep
+  pkt-passes-barrier = rw (and-false-right (eqb w (switchOf o)) refl) refl
+
+-- nor where neither is a barrier: two packets sent out, or one and a write
+pub no-bar-no-step : (o p : Operation) → isBarrier o ≡ false → isBarrier p ≡ false → barrierStep o p ≡ false
+unfolding barrierStep
+no-bar-no-step o p e f = and-false-right (eqb (switchOf o) (switchOf p) && barrierOrders o && barrierOrders p) (rw (e, f) refl)
 
 -- a directly precedes b
 pub precedes-iff : (a b : Event) → (precedes a b ≡ true) ↔ DirectlyPrecedes a b

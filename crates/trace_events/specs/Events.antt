@@ -3,8 +3,7 @@ use mathlib.Core.Bool.{Bool, true, false}
 use mathlib.Core.List.{List, [], _∷_}
 use Prim.Native.Nat.{ℕ}
 use lib.ListN.{take, getD, replicate}
-use Rattle.flow_table.specs.Carried.{carriedOf}
-use Rattle.trace_events.specs.Types.{TableOperation, Operation, Carried, Tokens, Head, Event, Trace}
+use Rattle.trace_events.specs.Types.{Origin, TableOperation, Operation, Tokens, Head, Event, Trace}
 
 -- the numbers of a token list: the first `count` of the four, all of them where it is more
 unfoldable pub tokensOf : Tokens → List ℕ
@@ -38,19 +37,23 @@ isBarrier (Operation.Barrier w) = true
 isBarrier (Operation.Message w) = false
 isBarrier (Operation.Table w o) = false
 
--- what a write carries: all but a packet
-abbrev changes : Carried → Bool
-changes (Carried.Packet p) = false
-changes (Carried.Entry e) = true
-changes (Carried.Key k) = true
-changes (Carried.Match m) = true
+abbrev pub isSentOut : Origin → Bool
+isSentOut Origin.Received = false
+isSentOut Origin.SentOut = true
 
-abbrev pub isWrite : TableOperation → Bool
-isWrite o = changes (carriedOf o)
+-- a message that uses the table: a write, or a packet sent out
+abbrev pub isMessage : TableOperation → Bool
+isMessage (TableOperation.Packet g p) = isSentOut g
+isMessage (TableOperation.Add e) = true
+isMessage (TableOperation.AddChecked e) = true
+isMessage (TableOperation.ModifyStrict e) = true
+isMessage (TableOperation.Modify e) = true
+isMessage (TableOperation.DeleteStrict k) = true
+isMessage (TableOperation.Delete m) = true
 
--- among writes, `bar` and `msg`: what a barrier of the same switch orders
+-- among writes, `bar`, `msg` and `pout`: what a barrier of the same switch orders
 abbrev pub barrierOrders : Operation → Bool
 barrierOrders Operation.Other = false
 barrierOrders (Operation.Barrier w) = true
 barrierOrders (Operation.Message w) = true
-barrierOrders (Operation.Table w o) = isWrite o
+barrierOrders (Operation.Table w o) = isMessage o

@@ -6,11 +6,11 @@ use mathlib.Core.List.{List·Memᴰ}
 use Prim.Native.Nat.{ℕ}
 use lib.Dec.{eqb}
 use Rattle.flow_table.specs.Switches.{switchOf}
-use Rattle.trace_events.specs.Types.{Key, Entry, Match, TableOperation, Operation, Head, Event}
+use Rattle.trace_events.specs.Types.{Key, Entry, Match, Packet, Origin, TableOperation, Operation, Head, Event}
 use Rattle.trace_events.specs.Events.{tokensOf, isBarrier, barrierOrders}
 use Rattle.basics.specs.Searches.{shares}
 
--- both on one switch, both among writes, `bar` and `msg`, and one is `bar`
+-- both on one switch, both among writes, `bar`, `msg` and `pout`, and one is `bar`
 unfoldable pub barrierStep : Operation → Operation → Bool
 barrierStep a b = eqb (switchOf a) (switchOf b) && barrierOrders a && barrierOrders b && (isBarrier a || isBarrier b)
 
@@ -32,13 +32,14 @@ pub data Write : TableOperation → Type 0 where
   dels : {k : Key} → Write (TableOperation.DeleteStrict k)
   deln : {m : Match} → Write (TableOperation.Delete m)
 
--- on switch w, and among writes, `bar`, `msg`
+-- on switch w, and among writes, `bar`, `msg`, `pout`
 pub data Among (w : ℕ) : Operation → Type 0 where
   write : {o : TableOperation} → Write o → Among w (Operation.Table w o)
   bar : Among w (Operation.Barrier w)
   msg : Among w (Operation.Message w)
+  pout : {p : Packet} → Among w (Operation.Table w (TableOperation.Packet Origin.SentOut p))
 
--- both are on one switch, both are among writes, `bar`, `msg`, and one is `bar`
+-- both are on one switch, both are among writes, `bar`, `msg`, `pout`, and one is `bar`
 pub record BarrierJoins (o p : Operation) : Type 0 where
   pub switch : ℕ
   pub first : Among switch o

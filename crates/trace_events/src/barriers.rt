@@ -1,11 +1,10 @@
 // Which operations a barrier of their switch orders.
-use flow_table::Carried;
 use flow_table::Operation;
+use flow_table::Origin;
 use flow_table::TableOperation;
-use flow_table::carried_by;
 ghost use mathlib.Core.Path.{_≡_};
 ghost use Rattle.flow_table.specs.Switches.{switchOf};
-ghost use Rattle.trace_events.specs.Events.{isBarrier, barrierOrders, isWrite};
+ghost use Rattle.trace_events.specs.Events.{isBarrier, isSentOut, isMessage, barrierOrders};
 
 // The switch of an operation; 0 of `oth`, which has none.
 pub fn switch_of(o: Operation) -> u8
@@ -30,20 +29,31 @@ pub fn is_barrier(o: Operation) -> bool
     }
 }
 
-// Every table operation but a packet.
-pub fn is_write(o: TableOperation) -> bool
-    ensures { λ r. ⌜ r ≡ isWrite o ⌝ }
+fn is_sent_out(origin: Origin) -> bool
+    ensures { λ r. ⌜ r ≡ isSentOut origin ⌝ }
 {
-    let carried = carried_by(o);
-    match carried {
-        Carried::Packet(_) => false,
-        Carried::Entry(_) => true,
-        Carried::Key(_) => true,
-        Carried::Match(_) => true,
+    match origin {
+        Origin::Received => false,
+        Origin::SentOut => true,
     }
 }
 
-// Among writes, `bar` and `msg`.
+// A write, or a packet sent out.
+fn is_message(o: TableOperation) -> bool
+    ensures { λ r. ⌜ r ≡ isMessage o ⌝ }
+{
+    match o {
+        TableOperation::Packet(origin, _) => is_sent_out(origin),
+        TableOperation::Add(_) => true,
+        TableOperation::AddChecked(_) => true,
+        TableOperation::ModifyStrict(_) => true,
+        TableOperation::Modify(_) => true,
+        TableOperation::DeleteStrict(_) => true,
+        TableOperation::Delete(_) => true,
+    }
+}
+
+// Among writes, `bar`, `msg` and `pout`.
 pub fn barrier_orders(o: Operation) -> bool
     ensures { λ r. ⌜ r ≡ barrierOrders o ⌝ }
 {
@@ -51,6 +61,6 @@ pub fn barrier_orders(o: Operation) -> bool
         Operation::Other => false,
         Operation::Barrier(_) => true,
         Operation::Message(_) => true,
-        Operation::Table(_, t) => is_write(t),
+        Operation::Table(_, t) => is_message(t),
     }
 }

@@ -29,7 +29,7 @@ impl Side {
         }
     }
 
-    // Both on one switch, both among writes, `bar` and `msg`, and one is `bar`.
+    // Both on one switch, both among writes, `bar`, `msg` and `pout`, and one is `bar`.
     pub fn barrier_step(self, other: Side) -> bool
         ensures { λ r. ⌜ r ≡ sideStep self other ⌝ }
     {

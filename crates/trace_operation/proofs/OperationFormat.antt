@@ -67,14 +67,14 @@ own SwitchWord.Message = record {
   written = λ w x b o. b;
   word = λ w x. refl;
 }
-own SwitchWord.Packet = record {
+own (SwitchWord.Packet g) = record {
   Value = Packet;
   ok = PacketInRange;
   print = printPacket;
   read = readPacket;
   format = packet-format;
   follows = packet-follows;
-  make = λ w p. Operation.Table w (TableOperation.Packet p);
+  make = λ w p. Operation.Table w (TableOperation.Packet g p);
   written = λ w p b o. (b, o);
   word = λ w p. refl;
 }
@@ -116,7 +116,7 @@ own-reads : (u : SwitchWord) (w : ℕ) (s : List ℕ) (at : ℕ) → readOn u w 
 unfolding readOn mapped
 own-reads SwitchWord.Barrier w s at = refl
 own-reads SwitchWord.Message w s at = refl
-own-reads SwitchWord.Packet w s at = refl
+own-reads (SwitchWord.Packet g) w s at = refl
 own-reads (SwitchWord.Write a) w s at = refl
 own-reads SwitchWord.DeleteStrict w s at = refl
 own-reads SwitchWord.Delete w s at = refl
@@ -125,7 +125,7 @@ own-prints : (u : SwitchWord) (w : ℕ) (x : own u .Value) → printOperation (o
 unfolding printOperation
 own-prints SwitchWord.Barrier w x = sym (append-nil (printSwitch w))
 own-prints SwitchWord.Message w x = sym (append-nil (printSwitch w))
-own-prints SwitchWord.Packet w p = refl
+own-prints (SwitchWord.Packet g) w p = refl
 own-prints (SwitchWord.Write a) w e = rw (write-carries a e) refl
 own-prints SwitchWord.DeleteStrict w k = refl
 own-prints SwitchWord.Delete w m = refl
@@ -147,7 +147,7 @@ made (Operation.Barrier w) r = ((w, tt), (r, tt), refl)
 made (Operation.Message w) r = ((w, tt), (r, tt), refl)
 made (Operation.Table w o) r =
     by-word (λ o. CarriedWritten (carriedOf o) → Made (Word.On (tableWord o)) (Operation.Table w o))
-    (λ p q. ((w, p), (r .0, q), refl))
+    (λ g p q. ((w, p), (r .0, q), refl))
     (λ a e q. rw (write-word a e) ((w, e), (r .0, rw (write-carries a e) at q), refl))
     (λ k q. ((w, k), (r .0, q), refl))
     (λ m q. ((w, m), (r .0, q), refl)) o (r .1)

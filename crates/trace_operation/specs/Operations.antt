@@ -1,5 +1,5 @@
--- Document 01, "Trace text": for all but `oth` then `sw` (0 to 15); for `pkt` port src dst proto sport dport; for writes prio, those
--- six, act (`dels` has no act; `deln` neither prio nor act).
+-- Document 01, "Trace text": for all but `oth` then `sw` (0 to 15); for `pkt` and `pout` port src dst proto sport dport; for
+-- writes prio, those six, act (`dels` has no act; `deln` neither prio nor act).
 use mathlib.Core.Bool.{Bool, true}
 use mathlib.Core.List.{List, [], _++_}
 use mathlib.Core.Option.{some}
@@ -42,7 +42,7 @@ readSwitch = keyed (bytes " sw=") (readNumber 15)
 unfoldable pub readOn : SwitchWord → ℕ → Reader Operation
 readOn SwitchWord.Barrier w s at = some (Operation.Barrier w, at)
 readOn SwitchWord.Message w s at = some (Operation.Message w, at)
-readOn SwitchWord.Packet w s at = mapped (λ p. Operation.Table w (TableOperation.Packet p)) readPacket s at
+readOn (SwitchWord.Packet g) w s at = mapped (λ p. Operation.Table w (TableOperation.Packet g p)) readPacket s at
 readOn (SwitchWord.Write a) w s at = mapped (λ e. Operation.Table w (writeOf a e)) readEntry s at
 readOn SwitchWord.DeleteStrict w s at = mapped (λ k. Operation.Table w (TableOperation.DeleteStrict k)) readKey s at
 readOn SwitchWord.Delete w s at = mapped (λ m. Operation.Table w (TableOperation.Delete m)) readMatch s at

@@ -1,6 +1,7 @@
 // The rest of a line behind its head, by the word of `do`. Where a field has no value, the line is refused: as `malformed`, which
 // has its number.
 use flow_table::Operation;
+use flow_table::Origin;
 use flow_table::TableOperation;
 use refusals::Refusal;
 use text_fields::EntryRead;
@@ -48,15 +49,15 @@ fn write_at(s: &[u8], at: usize, malformed: Refusal, w: u8, write: Write) -> Ope
     }
 }
 
-// `pkt`: a packet.
-fn lookup_at(s: &[u8], at: usize, malformed: Refusal, w: u8) -> OperationRead
-    ensures { λ r. ⌜ asOperation r ≡ refuseNone (mapped (λ p. Operation.Table w (TableOperation.Packet p)) readPacket (now (s .entry)) at) malformed ⌝ }
+// `pkt` and `pout`: a packet.
+fn lookup_at(s: &[u8], at: usize, malformed: Refusal, w: u8, origin: Origin) -> OperationRead
+    ensures { λ r. ⌜ asOperation r ≡ refuseNone (mapped (λ p. Operation.Table w (TableOperation.Packet origin p)) readPacket (now (s .entry)) at) malformed ⌝ }
 {
     let PacketRead::Read { value, next } = packet_at(s, at, malformed) else {
         return OperationRead::Refused(malformed);
     };
     OperationRead::Read {
-        value: Operation::Table(w, TableOperation::Packet(value)),
+        value: Operation::Table(w, TableOperation::Packet(origin, value)),
         next,
     }
 }
@@ -100,7 +101,7 @@ fn fields_at(s: &[u8], at: usize, malformed: Refusal, word: SwitchWord, w: u8) -
             value: Operation::Message(w),
             next: at,
         },
-        SwitchWord::Packet => lookup_at(s, at, malformed, w),
+        SwitchWord::Packet(origin) => lookup_at(s, at, malformed, w, origin),
         SwitchWord::Write(write) => write_at(s, at, malformed, w, write),
         SwitchWord::DeleteStrict => delete_strict_at(s, at, malformed, w),
         SwitchWord::Delete => delete_at(s, at, malformed, w),

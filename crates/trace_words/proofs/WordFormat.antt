@@ -1,4 +1,4 @@
--- The ten words: a reader that tries one after the other, and its format. Assumes nothing.
+-- The eleven words: a reader that tries one after the other, and its format. Assumes nothing.
 use mathlib.Core.Path.{_≡_, refl, _∙_}
 use mathlib.Core.Bool.{cond}
 use mathlib.Core.List.{List, [], _∷_, _++_}
@@ -10,7 +10,7 @@ use Rattle.text_numbers.specs.Reading.{startsWith, wordOr}
 use Rattle.text_numbers.specs.Format.{Format}
 use Rattle.text_numbers.proofs.Readers.{nothing, same-value, same-place, on-cond}
 use Rattle.text_numbers.proofs.Keys.{starts-key}
-use Rattle.trace_words.specs.Types.{Word, SwitchWord, Write}
+use Rattle.trace_words.specs.Types.{Origin, Word, SwitchWord, Write}
 use Rattle.trace_words.specs.Words.{printWord, readOneOf, readWord}
 
 -- no word, and a word before others, whose answer is known
@@ -29,7 +29,8 @@ unfolding readWord readOneOf wordOr startsWith
 word-reads Word.Other s at rest h = rw h refl
 word-reads (Word.On SwitchWord.Barrier) s at rest h = rw h refl
 word-reads (Word.On SwitchWord.Message) s at rest h = rw h refl
-word-reads (Word.On SwitchWord.Packet) s at rest h = rw h refl
+word-reads (Word.On (SwitchWord.Packet Origin.Received)) s at rest h = rw h refl
+word-reads (Word.On (SwitchWord.Packet Origin.SentOut)) s at rest h = rw h refl
 word-reads (Word.On (SwitchWord.Write Write.Add)) s at rest h = rw h refl
 word-reads (Word.On (SwitchWord.Write Write.AddChecked)) s at rest h = rw h refl
 word-reads (Word.On (SwitchWord.Write Write.ModifyStrict)) s at rest h = rw h refl

@@ -3,6 +3,7 @@ pub use Rattle.flow.specs.declared.matching.Match.{Match}
 pub use Rattle.flow.specs.declared.matching.Packet.{Packet}
 pub use Rattle.flow.specs.declared.entry.Key.{Key}
 pub use Rattle.flow.specs.declared.entry.Entry.{Entry}
+pub use Rattle.flow_table.specs.declared.operation.Origin.{Origin}
 pub use Rattle.flow_table.specs.declared.operation.TableOperation.{TableOperation}
 pub use Rattle.flow_table.specs.declared.operation.Operation.{Operation}
 pub use Rattle.flow_table.specs.declared.carried.Carried.{Carried}

@@ -4,11 +4,11 @@ use mathlib.Core.Option.{none}
 use Prim.Native.Nat.{ℕ}
 use Rattle.basics.specs.Text.{bytes}
 use Rattle.text_numbers.specs.Reading.{Reader, wordOr}
-use Rattle.trace_words.specs.Types.{Entry, TableOperation, Operation, Word, SwitchWord, Write}
+use Rattle.trace_words.specs.Types.{Entry, Origin, TableOperation, Operation, Word, SwitchWord, Write}
 
 -- ---- the words of the operations
 abbrev pub tableWord : TableOperation → SwitchWord
-tableWord (TableOperation.Packet p) = SwitchWord.Packet
+tableWord (TableOperation.Packet g p) = SwitchWord.Packet g
 tableWord (TableOperation.Add e) = SwitchWord.Write Write.Add
 tableWord (TableOperation.AddChecked e) = SwitchWord.Write Write.AddChecked
 tableWord (TableOperation.ModifyStrict e) = SwitchWord.Write Write.ModifyStrict
@@ -33,7 +33,8 @@ writeOf Write.Modify e = TableOperation.Modify e
 abbrev pub switchWordText : SwitchWord → List ℕ
 switchWordText SwitchWord.Barrier = bytes "bar"
 switchWordText SwitchWord.Message = bytes "msg"
-switchWordText SwitchWord.Packet = bytes "pkt"
+switchWordText (SwitchWord.Packet Origin.Received) = bytes "pkt"
+switchWordText (SwitchWord.Packet Origin.SentOut) = bytes "pout"
 switchWordText (SwitchWord.Write Write.Add) = bytes "add"
 switchWordText (SwitchWord.Write Write.AddChecked) = bytes "addc"
 switchWordText (SwitchWord.Write Write.ModifyStrict) = bytes "mods"
@@ -58,7 +59,7 @@ abbrev pub writeWords : List SwitchWord
 writeWords = SwitchWord.Write Write.Add ∷ SwitchWord.Write Write.AddChecked ∷ SwitchWord.Write Write.ModifyStrict ∷ SwitchWord.Write Write.Modify ∷ SwitchWord.DeleteStrict ∷ SwitchWord.Delete ∷ []
 
 abbrev pub allWords : List Word
-allWords = Word.Other ∷ map Word.On (SwitchWord.Barrier ∷ SwitchWord.Message ∷ SwitchWord.Packet ∷ writeWords)
+allWords = Word.Other ∷ map Word.On (SwitchWord.Barrier ∷ SwitchWord.Message ∷ SwitchWord.Packet Origin.Received ∷ SwitchWord.Packet Origin.SentOut ∷ writeWords)
 
 unfoldable pub readWord : Reader Word
 readWord = readOneOf allWords

@@ -2,6 +2,7 @@
 use crate::word::SwitchWord;
 use crate::word::Word;
 use crate::word::Write;
+use flow_table::Origin;
 use text_numbers::starts_with;
 ghost use mathlib.Core.Path.{_≡_};
 ghost use mathlib.Core.List.{map};
@@ -59,12 +60,25 @@ fn write_word(s: &[u8], at: usize) -> WordRead
     word_or(s, at, b"add ", Word::On(SwitchWord::Write(Write::Add)), r)
 }
 
-// Any of the ten.
+// Any of the eleven.
 fn read_word(s: &[u8], at: usize) -> WordRead
     ensures { λ r. ⌜ asWord r ≡ readWord (now (s .entry)) at ⌝ }
 {
     let r = write_word(s, at);
-    let r = word_or(s, at, b"pkt ", Word::On(SwitchWord::Packet), r);
+    let r = word_or(
+        s,
+        at,
+        b"pout ",
+        Word::On(SwitchWord::Packet(Origin::SentOut)),
+        r,
+    );
+    let r = word_or(
+        s,
+        at,
+        b"pkt ",
+        Word::On(SwitchWord::Packet(Origin::Received)),
+        r,
+    );
     let r = word_or(s, at, b"msg ", Word::On(SwitchWord::Message), r);
     let r = word_or(s, at, b"bar ", Word::On(SwitchWord::Barrier), r);
     word_or(s, at, b"oth ", Word::Other, r)

@@ -1,6 +1,7 @@
 // The words, and which operations each stands for.
 use flow::Entry;
 use flow_table::Operation;
+use flow_table::Origin;
 use flow_table::TableOperation;
 ghost use mathlib.Core.Path.{_≡_};
 ghost use Rattle.trace_words.specs.Words.{tableWord, wordOf, writeOf};
@@ -17,7 +18,7 @@ pub enum Write {
 pub enum SwitchWord {
     Barrier,
     Message,
-    Packet,
+    Packet(Origin),
     Write(Write),
     DeleteStrict,
     Delete,
@@ -44,7 +45,7 @@ fn table_word(o: TableOperation) -> SwitchWord
     ensures { λ r. ⌜ r ≡ tableWord o ⌝ }
 {
     match o {
-        TableOperation::Packet(_) => SwitchWord::Packet,
+        TableOperation::Packet(origin, _) => SwitchWord::Packet(origin),
         TableOperation::Add(_) => SwitchWord::Write(Write::Add),
         TableOperation::AddChecked(_) => SwitchWord::Write(Write::AddChecked),
         TableOperation::ModifyStrict(_) => SwitchWord::Write(Write::ModifyStrict),

@@ -10,10 +10,10 @@ pub put-switch-word-spec : {M : Type 1} → statement M
 put-switch-word-spec =
     tie.close
     (tie.spec
-    (λ c. search needs) (λ c. search needs) (λ c κs. search needs) (λ c. search needs) (λ c. search needs) (λ c κs. search needs) (λ c. search needs) (λ c. search needs) (λ c κs. search needs) (λ c. search needs) (λ c κs. search needs) (λ c. search needs) (λ c. search needs) (λ c κs. search needs) (λ c. search needs) (λ c. search needs) (λ c κs. search needs)
+    (λ c. search needs) (λ c. search needs) (λ c κs. search needs) (λ c. search needs) (λ c. search needs) (λ c κs. search needs) (λ c. search needs) (λ c κs. search needs) (λ c. search needs) (λ c κs. search needs) (λ c. search needs) (λ c. search needs) (λ c κs. search needs) (λ c. search needs) (λ c. search needs) (λ c κs. search needs)
     (λ c. search needs) (λ c. arm-put (λ (w : SwitchWord). left 5 (switchWordText w)) (c .before .before .before .before .before .enum-told .given .1) (c .before .before .put-left .ensures))
     (λ c. search needs) (λ c. arm-put (λ (w : SwitchWord). left 5 (switchWordText w)) (c .before .before .before .before .before .enum-told2 .given .1) (c .before .before .put-left2 .ensures))
+    (λ c. search needs) (λ c. arm-put (λ (w : SwitchWord). left 5 (switchWordText w)) (c .before .before .before .before .before .w .given .1) (c .before .before .put-packet .ensures))
+    (λ c. search needs) (λ c. arm-put (λ (w : SwitchWord). left 5 (switchWordText w)) (c .before .before .before .before .before .w2 .given .1) (c .before .before .put-write .ensures))
     (λ c. search needs) (λ c. arm-put (λ (w : SwitchWord). left 5 (switchWordText w)) (c .before .before .before .before .before .enum-told3 .given .1) (c .before .before .put-left3 .ensures))
-    (λ c. search needs) (λ c. arm-put (λ (w : SwitchWord). left 5 (switchWordText w)) (c .before .before .before .before .before .w .given .1) (c .before .before .put-write .ensures))
-    (λ c. search needs) (λ c. arm-put (λ (w : SwitchWord). left 5 (switchWordText w)) (c .before .before .before .before .before .enum-told4 .given .1) (c .before .before .put-left4 .ensures))
-    (λ c. search needs) (λ c. arm-put (λ (w : SwitchWord). left 5 (switchWordText w)) (c .before .before .before .before .before .enum-told5 .given .1) (c .before .before .put-left5 .ensures)))
+    (λ c. search needs) (λ c. arm-put (λ (w : SwitchWord). left 5 (switchWordText w)) (c .before .before .before .before .before .enum-told4 .given .1) (c .before .before .put-left4 .ensures)))

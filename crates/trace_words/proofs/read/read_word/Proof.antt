@@ -8,12 +8,14 @@ pub read-word-spec : {M : Type 1} → statement M
 unfolding readWord
 read-word-spec =
     tie.close
-    (tie.spec (λ c κs. search needs) (λ c. search needs) (λ c κs. search needs) (λ c. search needs) (λ c κs. search needs) (λ c. search needs) (λ c κs. search needs) (λ c. search needs) (λ c κs. search needs)
+    (tie.spec (λ c κs. search needs) (λ c. search needs) (λ c κs. search needs) (λ c. search needs) (λ c κs. search needs) (λ c. search needs) (λ c κs. search needs) (λ c. search needs) (λ c κs. search needs) (λ c. search needs) (λ c κs. search needs)
     (λ c. word-before _ _ _ _
     (word-before _ _ _ _
     (word-before _ _ _ _
-    (word-before _ _ _ _ (c .before .before .before .before .before .before .before .before .write-word .ensures)
-    (c .before .before .before .before .before .before .word-or .ensures))
-    (c .before .before .before .before .word-or2 .ensures))
-    (c .before .before .word-or3 .ensures))
-    (c .word-or4 .ensures)))
+    (word-before _ _ _ _
+    (word-before _ _ _ _ (c .before .before .before .before .before .before .before .before .before .before .write-word .ensures)
+    (c .before .before .before .before .before .before .before .before .word-or .ensures))
+    (c .before .before .before .before .before .before .word-or2 .ensures))
+    (c .before .before .before .before .word-or3 .ensures))
+    (c .before .before .word-or4 .ensures))
+    (c .word-or5 .ensures)))

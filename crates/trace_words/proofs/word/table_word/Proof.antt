@@ -8,10 +8,10 @@ pub table-word-spec : {M : Type 1} → statement M
 table-word-spec =
     tie.close
     (tie.spec (λ c. search needs) (λ c. search needs) (λ c. search needs) (λ c. search needs) (λ c. search needs) (λ c. search needs) (λ c. search needs)
+    (λ c. ap tableWord (sym (c .before .o .given .1)))
     (λ c. ap tableWord (sym (c .enum-told .given .1)))
     (λ c. ap tableWord (sym (c .enum-told2 .given .1)))
     (λ c. ap tableWord (sym (c .enum-told3 .given .1)))
     (λ c. ap tableWord (sym (c .enum-told4 .given .1)))
     (λ c. ap tableWord (sym (c .enum-told5 .given .1)))
-    (λ c. ap tableWord (sym (c .enum-told6 .given .1)))
-    (λ c. ap tableWord (sym (c .enum-told7 .given .1))))
+    (λ c. ap tableWord (sym (c .enum-told6 .given .1))))

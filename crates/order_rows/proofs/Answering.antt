@@ -1,4 +1,4 @@
--- Which events have an answer line: exactly `pkt` and `addc` (`answer-line-iff`). Assumes nothing.
+-- Which events have an answer line: exactly `pkt`, `pout` and `addc` (`answer-line-iff`). Assumes nothing.
 use mathlib.Core.Path.{_≡_, refl, sym, ap, _∙_}
 use mathlib.Core.Bool.{Bool, true, false, _||_, not, cond, false≢true}
 use mathlib.Core.List.{List, [], _∷_}
@@ -17,7 +17,7 @@ use Rattle.order_meaning.proofs.OrderLaws.{in-range}
 use Rattle.rows.specs.Rows.{tableOf}
 use Rattle.rows_step.specs.Stepping.{stepRows, effectAnswer, answerRows}
 use Rattle.trace_events.specs.Events.{noEvent}
-use Rattle.order_rows.specs.Types.{Operation, Answer, Event, Row, Effect}
+use Rattle.order_rows.specs.Types.{Packet, Origin, TableOperation, Operation, Answer, Event, Row, Effect}
 use Rattle.order_rows.specs.Runs.{operationAt}
 use Rattle.order_rows.specs.Inner.{keptIn, answersIn}
 use Rattle.replay_answers.specs.Answers.{answersAs, hasAnswer, isSilent}
@@ -62,7 +62,7 @@ module _ (es : List Event) where
           ∙ answer-silent (operationAt es j) rs ∙ ap (λ n. not (hasAnswer (operationAt es n))) (sym (eqb-true i j u))
       last false u k e = absurd (false≢true (sym e ∙ k))
 
-  -- in an order of the events, each event that is a `pkt` or `addc` has an answer line, and no other has
+  -- in an order of the events, each event that is a `pkt`, `pout` or `addc` has an answer line, and no other has
   pub answer-line-iff : (o : List ℕ) → IsOrderOf (length es) o → (rs : List Row) (i : ℕ) → isSilent (answersIn es o rs i) ≡ not (hasAnswer (operationAt es i))
   unfolding answersIn
   answer-line-iff o p rs i =
@@ -73,3 +73,8 @@ module _ (es : List Event) where
     where
       absent : (i < length es → ⊥) → has i o ≡ false
       absent l = split (has i o) (λ e. absurd (l (in-range p i e))) (λ e. e)
+
+  -- so a packet has one, received or sent out
+  pub packet-line : (o : List ℕ) → IsOrderOf (length es) o → (rs : List Row) (i w : ℕ) (g : Origin) (p : Packet)
+      → operationAt es i ≡ Operation.Table w (TableOperation.Packet g p) → isSilent (answersIn es o rs i) ≡ false
+  packet-line o h rs i w g p e = answer-line-iff o h rs i ∙ ap (λ a. not (hasAnswer a)) e

@@ -173,8 +173,10 @@ fn value(random: &mut Random, text: &[u8]) -> Vec<u8> {
         "0A000000/8",
         "ffffffff",
     ];
-    const WORDS: [&str; 12] =
-        ["pkt", "add", "addc", "mods", "modn", "dels", "deln", "bar", "msg", "oth", "ad", "other"];
+    const WORDS: [&str; 15] = [
+        "pkt", "pout", "add", "addc", "mods", "modn", "dels", "deln", "bar", "msg", "oth", "ad", "other",
+        "pou", "pouts",
+    ];
     let equals = places(text, |at| text[at] == b'=');
     let Some(at) = pick_place(random, &equals) else { return text.to_vec() };
     let value = if text[..at].ends_with(b"do") { random.pick(&WORDS) } else { random.pick(&VALUES) };

@@ -51,7 +51,7 @@ fn operation_items(operation: &Operation) -> (&'static str, String) {
 fn table_items(operation: &TableOperation) -> String {
     use TableOperation::{Add, CheckedAdd, Delete, Modify, Packet, StrictDelete, StrictModify};
     match operation {
-        Packet(packet) => packet_items(packet),
+        Packet(_, packet) => packet_items(packet),
         Add(entry) | CheckedAdd(entry) | StrictModify(entry) | Modify(entry) => {
             EntryItems(*entry).to_string()
         }

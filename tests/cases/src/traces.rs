@@ -4,7 +4,7 @@ use crate::print::trace_text;
 use crate::tables::{fitting_entry, long_entry, FITTING_PACKET, LONG_SWITCH};
 use crate::{Random, World};
 use reference::flow::{Action, Entry, Key, Match, Packet};
-use reference::table::TableOperation;
+use reference::table::{Origin, TableOperation};
 use reference::trace::{Event, Operation};
 
 /// How many events a random trace has: mostly few, sometimes as many as there may be.
@@ -130,19 +130,19 @@ pub fn long_checked_adds() -> Vec<u8> {
 pub fn packets_to_the_last() -> Vec<u8> {
     let packet =
         Packet { port: 60_255, src: 0xffff_fff1, dst: 0xffff_fff1, proto: 255, sport: 65_535, dport: 65_535 };
-    let look_up = |_| Operation::Table(LONG_SWITCH, TableOperation::Packet(packet));
+    let look_up = |_| Operation::Table(LONG_SWITCH, TableOperation::Packet(Origin::Received, packet));
     trace_text(&apart((0..256).map(look_up)))
 }
 
 /// 256 packets, each of which fits all entries of [`crate::tables::all_fitting`].
 pub fn packets_to_all() -> Vec<u8> {
-    let look_up = |_| Operation::Table(LONG_SWITCH, TableOperation::Packet(FITTING_PACKET));
+    let look_up = |_| Operation::Table(LONG_SWITCH, TableOperation::Packet(Origin::Received, FITTING_PACKET));
     trace_text(&apart((0..256).map(look_up)))
 }
 
 /// 255 adds of the entries after those of [`crate::tables::all_fitting`], and then a packet that fits all 511.
 pub fn packet_to_511() -> Vec<u8> {
     let add = |n| TableOperation::Add(fitting_entry(n));
-    let operations = (256..511).map(add).chain([TableOperation::Packet(FITTING_PACKET)]);
+    let operations = (256..511).map(add).chain([TableOperation::Packet(Origin::Received, FITTING_PACKET)]);
     trace_text(&apart(operations.map(|operation| Operation::Table(LONG_SWITCH, operation))))
 }

@@ -1,6 +1,6 @@
 use crate::Random;
 use reference::flow::{Action, Entry, Exact, Key, Match, Packet, Prefix};
-use reference::table::TableOperation;
+use reference::table::{Origin, TableOperation};
 
 /// Where the values of a case come from. In a narrow world few values stand for each field, so that
 /// matches often overlap, lie within each other or are equal; in a wide one all values occur, the
@@ -106,13 +106,14 @@ impl World {
 
     /// An event that uses a table.
     pub fn operation(self, random: &mut Random) -> TableOperation {
-        match random.below(10) {
-            0..=2 => TableOperation::Packet(self.packet(random)),
-            3 | 4 => TableOperation::Add(self.entry(random)),
-            5 => TableOperation::CheckedAdd(self.entry(random)),
-            6 => TableOperation::StrictModify(self.entry(random)),
-            7 => TableOperation::Modify(self.entry(random)),
-            8 => TableOperation::StrictDelete(self.key(random)),
+        match random.below(11) {
+            0 | 1 => TableOperation::Packet(Origin::Received, self.packet(random)),
+            2 | 3 => TableOperation::Packet(Origin::SentOut, self.packet(random)),
+            4 | 5 => TableOperation::Add(self.entry(random)),
+            6 => TableOperation::CheckedAdd(self.entry(random)),
+            7 => TableOperation::StrictModify(self.entry(random)),
+            8 => TableOperation::Modify(self.entry(random)),
+            9 => TableOperation::StrictDelete(self.key(random)),
             _ => TableOperation::Delete(self.matching(random)),
         }
     }

@@ -1,5 +1,6 @@
 //! Happens-before.
 
+use crate::table::{Origin::Received, TableOperation::Packet};
 use crate::tables::SWITCHES;
 use crate::trace::{Event, Operation, PutOn};
 
@@ -80,7 +81,7 @@ pub fn directly_precedes(earlier: &Event, later: &Event) -> bool {
     passes_token || barrier_between(earlier, later)
 }
 
-/// Whether both are on one switch, both are among writes, `bar` and `msg`, and one is `bar`.
+/// Whether both are on one switch, both are among writes, `bar`, `msg` and `pout`, and one is `bar`.
 fn barrier_between(a: &Event, b: &Event) -> bool {
     match (ordered_by_barriers(a), ordered_by_barriers(b)) {
         (Some(s), Some(t)) => s == t && (is_barrier(a) || is_barrier(b)),
@@ -92,11 +93,10 @@ fn is_barrier(event: &Event) -> bool {
     matches!(event.operation, Operation::Barrier(_))
 }
 
-/// The switch of a write, a barrier or another message.
+/// The switch of a write, a barrier, another message or a packet sent out: all that reaches it as a message.
 fn ordered_by_barriers(event: &Event) -> Option<u8> {
-    use crate::table::TableOperation::Packet;
     match event.operation {
-        Operation::Table(_, Packet(_)) | Operation::Other => None,
+        Operation::Table(_, Packet(Received, _)) | Operation::Other => None,
         Operation::Table(switch, _) | Operation::Barrier(switch) | Operation::Message(switch) => Some(switch),
     }
 }

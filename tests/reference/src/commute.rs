@@ -35,7 +35,7 @@ impl Flat {
     pub(crate) fn of(operation: &TableOperation) -> Flat {
         let only = |matching| Row::new(&Key::new(0, matching), Action::Drop);
         let (kind, row) = match operation {
-            TableOperation::Packet(packet) => (Packet, only(packet.as_match())),
+            TableOperation::Packet(_, packet) => (Packet, only(packet.as_match())),
             TableOperation::Add(entry) | TableOperation::StrictModify(entry) => (Add, Row::of(entry)),
             TableOperation::CheckedAdd(entry) => (CheckedAdd, Row::of(entry)),
             TableOperation::Modify(entry) => (Modify, Row::of(entry)),

@@ -3,11 +3,20 @@
 use crate::flow::{Action, Entry, Key, Match, Packet};
 use crate::packed::{Bits, Row};
 
+/// Where a packet that is looked up came from. What it finds doesn't depend on this.
+#[derive(Clone, Copy, Debug, PartialEq, Eq)]
+pub enum Origin {
+    /// `pkt`: a port of the switch received it.
+    Received,
+    /// `pout`: a message to the switch sent it out, with the table as its port.
+    SentOut,
+}
+
 /// An event that uses a table.
 #[derive(Clone, Copy, Debug, PartialEq, Eq)]
 pub enum TableOperation {
-    /// `pkt`: a packet is looked up.
-    Packet(Packet),
+    /// `pkt` or `pout`: a packet is looked up.
+    Packet(Origin, Packet),
     /// `add`: the key's action is set.
     Add(Entry),
     /// `addc`: added unless an entry of that priority overlaps.
@@ -26,7 +35,8 @@ impl TableOperation {
     /// The word of `do`.
     pub fn word(&self) -> &'static str {
         match self {
-            TableOperation::Packet(_) => "pkt",
+            TableOperation::Packet(Origin::Received, _) => "pkt",
+            TableOperation::Packet(Origin::SentOut, _) => "pout",
             TableOperation::Add(_) => "add",
             TableOperation::CheckedAdd(_) => "addc",
             TableOperation::StrictModify(_) => "mods",
@@ -40,7 +50,7 @@ impl TableOperation {
     pub fn priority(&self) -> Option<u16> {
         use TableOperation::{Add, CheckedAdd, Delete, Modify, Packet, StrictDelete, StrictModify};
         match self {
-            Packet(_) | Delete(_) => None,
+            Packet(..) | Delete(_) => None,
             Add(entry) | CheckedAdd(entry) | StrictModify(entry) | Modify(entry) => {
                 Some(entry.key.priority.0)
             }
@@ -105,7 +115,7 @@ impl Table {
     /// Does an event, and gives its answer, if it has one.
     pub fn apply(&mut self, operation: &TableOperation) -> Option<Answer> {
         match operation {
-            TableOperation::Packet(packet) => return Some(self.look_up(packet)),
+            TableOperation::Packet(_, packet) => return Some(self.look_up(packet)),
             TableOperation::CheckedAdd(entry) => return Some(self.checked_add(Row::of(entry))),
             TableOperation::Add(entry) | TableOperation::StrictModify(entry) => self.set(Row::of(entry)),
             TableOperation::Modify(entry) => self.modify(Row::of(entry)),

@@ -1,7 +1,7 @@
 //! The text of a trace: its events, or what is refused.
 
 use crate::refusal::Refusal;
-use crate::table::TableOperation;
+use crate::table::{Origin, TableOperation};
 use crate::text::{self, Items};
 
 /// One line of a trace.
@@ -89,7 +89,8 @@ fn read_operation(word: &[u8], items: &mut Items) -> Option<Operation> {
 
 fn read_table_operation(word: &[u8], items: &mut Items) -> Option<TableOperation> {
     Some(match word {
-        b"pkt" => TableOperation::Packet(items.packet()?),
+        b"pkt" => TableOperation::Packet(Origin::Received, items.packet()?),
+        b"pout" => TableOperation::Packet(Origin::SentOut, items.packet()?),
         b"add" => TableOperation::Add(items.entry()?),
         b"addc" => TableOperation::CheckedAdd(items.entry()?),
         b"mods" => TableOperation::StrictModify(items.entry()?),
@@ -104,7 +105,7 @@ fn read_table_operation(word: &[u8], items: &mut Items) -> Option<TableOperation
 fn is_clear(event: &Event) -> bool {
     use TableOperation::{Add, CheckedAdd, Delete, Modify, Packet, StrictDelete, StrictModify};
     match event.on_table() {
-        None | Some((_, Packet(_))) => true,
+        None | Some((_, Packet(..))) => true,
         Some((_, Add(e) | CheckedAdd(e) | StrictModify(e) | Modify(e))) => e.key.matching.is_clear(),
         Some((_, StrictDelete(key))) => key.matching.is_clear(),
         Some((_, Delete(matching))) => matching.is_clear(),

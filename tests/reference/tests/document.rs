@@ -1,6 +1,9 @@
 //! The sentences of document 01, one by one.
 
+use reference::flow::Packet;
 use reference::replay::{check_order, recorded_order};
+use reference::table::{Origin, TableOperation};
+use reference::trace::Operation;
 use reference::{
     happens_before, list, normalise, page, read_tables, read_trace, replay, Counts, Lengths, PAGE_ROOM,
 };
@@ -114,25 +117,28 @@ fn every_word_on_a_page() {
         ("deln", format!("sw=10 {ANY}")),
         ("addc", write(1, 10, 1)),
         ("mods", write(2, 999, 1)),
+        ("pout", format!("sw=4 {PACKET}")),
         ("modn", write(3, 1000, 1)),
         ("dels", format!("sw=0 prio=5 {ANY}")),
         ("add", write(15, 65_535, 2)),
         ("deln", format!("sw=9 {ANY}")),
         ("addc", write(10, 65_534, 2)),
         ("mods", write(1, 10, 2)),
-        ("modn", write(2, 1, 2)),
+        ("pout", format!("sw=2 {PACKET}")),
+        ("modn", write(4, 1, 2)),
         ("pkt", format!("sw=3 {PACKET}")),
     ]);
     let pairs = [
-        "  0   7  0 pkt  dels     -     5",
-        "  1   8 15 dels add  65535 65535",
-        "  2   9  9 add  deln     0     -",
-        "  3  10 10 deln addc     - 65534",
-        "  4  11  1 addc mods    10    10",
-        "  5  12  2 mods modn   999     1",
-        "  6  13  3 modn pkt   1000     -",
+        "  0   8  0 pkt  dels     -     5",
+        "  1   9 15 dels add  65535 65535",
+        "  2  10  9 add  deln     0     -",
+        "  3  11 10 deln addc     - 65534",
+        "  4  12  1 addc mods    10    10",
+        "  5  13  2 mods pout   999     -",
+        "  6  14  4 pout modn     -     1",
+        "  7  15  3 modn pkt   1000     -",
     ];
-    assert_eq!(page_of(&trace), pinned(&pairs, [7, 0, 0, 7]));
+    assert_eq!(page_of(&trace), pinned(&pairs, [8, 0, 0, 8]));
 }
 
 /// Events of one, two and three digits, and pairs without a priority.
@@ -211,12 +217,13 @@ fn malformed_lines() {
         "ev=0 do=bar in=- out=- sw=16",
         "ev=0 do=bar in=- out=-",
         "ev=0 do=msg in=- out=- sw=1 prio=1",
+        "ev=0 do=poutin=- out=- sw=1 port=1 src=00000000 dst=00000000 proto=1 sport=1 dport=1",
         "ev=1 do=oth in=- out=", // 4 before 5
     ];
     for bad in bad {
         assert_eq!(trace_refusal(&format!("{bad}\n")), (4, 0, bad.to_owned()), "{bad}");
     }
-    let writes = [
+    let items = [
         ("add", format!("sw=1 prio=1 {ANY} act=p01")),
         ("add", format!("sw=1 prio=1 {ANY} act=p")),
         ("add", format!("sw=1 prio=1 {ANY} act=P1")),
@@ -225,10 +232,18 @@ fn malformed_lines() {
         ("dels", format!("sw=1 prio=1 {ANY} act=drop")),
         ("deln", format!("sw=1 prio=1 {ANY}")),
         ("pkt", format!("sw=1 {ANY}")),
+        ("pout", format!("sw=1 {ANY}")),
+        ("pout", format!("sw=1 prio=1 {ANY} act=drop")),
+        ("pout", format!("sw=1 prio=1 {PACKET}")),
+        ("pout", format!("sw=1 {PACKET} act=drop")),
+        ("pout", "sw=1".to_owned()),
+        ("pout", PACKET.to_owned()),
+        ("pou", format!("sw=1 {PACKET}")),
+        ("pouts", format!("sw=1 {PACKET}")),
         ("addc", format!("sw=1 prio=65536 {ANY} act=drop")),
         ("addc", format!("sw=1 prio=1 {} act=drop", ANY.replace("proto=*", "proto=256"))),
     ];
-    for (word, rest) in writes {
+    for (word, rest) in items {
         assert_eq!(trace_refusal(&plain_trace(&[(word, rest.clone())])).0, 4, "{word} {rest}");
     }
 }
@@ -238,7 +253,8 @@ fn every_word_is_read() {
     let entry = format!("sw=15 prio=65535 {ANY} act=ctl");
     let packet = "sw=0 port=65535 src=ffffffff dst=00000000 proto=255 sport=0 dport=1".to_owned();
     let trace = plain_trace(&[
-        ("pkt", packet),
+        ("pkt", packet.clone()),
+        ("pout", packet),
         ("add", entry.clone()),
         ("addc", entry.clone()),
         ("mods", entry.clone()),
@@ -249,7 +265,19 @@ fn every_word_is_read() {
         ("msg", "sw=1".to_owned()),
         ("oth", String::new()),
     ]);
-    assert_eq!(read_trace(trace.as_bytes()).unwrap().len(), 10);
+    assert_eq!(read_trace(trace.as_bytes()).unwrap().len(), 11);
+}
+
+#[test]
+fn both_words_of_a_packet() {
+    let packet = Packet { port: 1, src: 0, dst: 0, proto: 1, sport: 1, dport: 1 };
+    for (word, origin) in [("pkt", Origin::Received), ("pout", Origin::SentOut)] {
+        let operation = TableOperation::Packet(origin, packet);
+        let trace = plain_trace(&[(word, format!("sw=7 {PACKET}"))]);
+        let events = read_trace(trace.as_bytes()).unwrap();
+        assert_eq!(events[0].operation, Operation::Table(7, operation));
+        assert_eq!((operation.word(), operation.priority()), (word, None));
+    }
 }
 
 #[test]
@@ -289,6 +317,13 @@ fn tokens_twice_and_too_early() {
     assert_eq!(trace_refusal("ev=0 do=oth in=- out=1\nev=0 do=oth in=- out=1\n").0, 5);
 }
 
+/// The events that happen before each event of a trace.
+fn all_before(trace: &str) -> Vec<Vec<usize>> {
+    let before = happens_before(&read_trace(trace.as_bytes()).unwrap());
+    let events = before.len();
+    before.iter().map(|set| (0..events).filter(|&event| set.contains(event)).collect()).collect()
+}
+
 #[test]
 fn barriers_and_chains() {
     let write = format!("sw=1 {ANY}");
@@ -304,13 +339,53 @@ fn barriers_and_chains() {
         ("bar", "sw=2".to_owned()),
         ("msg", "sw=1".to_owned()),
     ]);
-    let before = happens_before(&read_trace(trace.as_bytes()).unwrap());
-    let sets: Vec<Vec<usize>> =
-        before.iter().map(|set| (0..8).filter(|&e| set.contains(e)).collect()).collect();
     let after_bars = vec![0, 1, 2];
     let wanted =
         [vec![], vec![0], vec![0, 1], vec![], after_bars.clone(), after_bars.clone(), vec![], after_bars];
-    assert_eq!(sets, wanted);
+    assert_eq!(all_before(&trace), wanted);
+}
+
+/// A packet sent out is ordered by barriers as a message is, one received is not; nothing else orders them.
+#[test]
+fn barriers_and_packets() {
+    let on = |switch: u8, items: &str| format!("sw={switch} {items}").trim_end().to_owned();
+    let trace = plain_trace(&[
+        ("pout", on(1, PACKET)),
+        ("pkt", on(1, PACKET)),
+        ("deln", on(1, ANY)),
+        ("msg", on(1, "")),
+        ("pout", on(1, PACKET)),
+        ("bar", on(1, "")),
+        ("bar", on(2, "")),
+        ("pout", on(1, PACKET)),
+        ("pkt", on(1, PACKET)),
+        ("deln", on(1, ANY)),
+        ("pout", on(1, PACKET)),
+        ("pout", on(2, PACKET)),
+    ]);
+    let mut wanted = vec![vec![]; 12];
+    wanted[5] = vec![0, 2, 3, 4];
+    for event in [7, 9, 10] {
+        wanted[event] = vec![0, 2, 3, 4, 5];
+    }
+    wanted[11] = vec![6];
+    assert_eq!(all_before(&trace), wanted);
+}
+
+#[test]
+fn a_barrier_in_front_of_a_packet() {
+    let trace = |word| {
+        let (delete, packet) = (format!("sw=1 {ANY}"), format!("sw=1 {PACKET}"));
+        plain_trace(&[("deln", delete), ("bar", "sw=1".to_owned()), (word, packet)])
+    };
+    let counts = Counts { pairs: 1, ..Counts::default() };
+    let mut out = [9; 2];
+    assert_eq!(list(trace("pout").as_bytes(), &mut out), Ok(Counts { ordered: 1, ..counts }));
+    assert_eq!(out, [9, 9]);
+    assert_eq!(list(trace("pkt").as_bytes(), &mut out), Ok(Counts { listed: 1, ..counts }));
+    assert_eq!(out, [0, 2]);
+    assert_eq!(replayed(&trace("pout"), "", Some(&[0, 2, 1])), Err((22, 1)));
+    assert!(replayed(&trace("pkt"), "", Some(&[2, 0, 1])).is_ok());
 }
 
 #[test]
@@ -322,6 +397,15 @@ fn a_chain_joins_a_packet_through_tokens() {
     let mut out = [0; 2];
     let counts = Counts { pairs: 1, ordered: 1, commuting: 0, listed: 0 };
     assert_eq!(list(trace.as_bytes(), &mut out), Ok(counts));
+}
+
+#[test]
+fn a_chain_goes_on_from_a_packet_sent_out() {
+    let trace = format!(
+        "ev=0 do=deln in=- out=- sw=1 {ANY}\nev=1 do=bar in=- out=- sw=1\n\
+         ev=2 do=pout in=- out=1 sw=1 {PACKET}\nev=3 do=pkt in=1 out=- sw=1 {PACKET}\n"
+    );
+    assert_eq!(all_before(&trace), [vec![], vec![0], vec![0, 1], vec![0, 1, 2]]);
 }
 
 #[test]
@@ -354,6 +438,7 @@ fn each_operation_replayed() {
     let packet = "sw=1 port=1 src=00000000 dst=0a010203 proto=1 sport=1 dport=1".to_owned();
     let trace = plain_trace(&[
         ("pkt", packet.clone()),
+        ("pout", packet.clone()),
         ("modn", format!("sw=1 prio=3 {wide} act=p1")),
         ("pkt", packet.clone()),
         ("addc", format!("sw=1 prio=3 {narrow} act=p2")),
@@ -365,14 +450,15 @@ fn each_operation_replayed() {
         ("mods", format!("sw=1 prio=4 {narrow} act=drop")),
         ("dels", format!("sw=1 prio=3 {wide}")),
         ("deln", format!("sw=1 {narrow}")),
-        ("pkt", packet),
+        ("pkt", packet.clone()),
+        ("pout", packet),
     ]);
     let (end, answers) = replayed(&trace, "", None).unwrap();
     assert_eq!(end, format!("sw=1 prio=4 {wide} act=ctl\n"));
     assert_eq!(
         answers,
-        "ev=0 hit=-\nev=2 hit=3,1,p1\nev=3 done=no\nev=4 done=yes\nev=5 hit=4,1,p2\n\
-         ev=7 hit=4,2,p3\nev=12 hit=4,1,ctl\n"
+        "ev=0 hit=-\nev=1 hit=-\nev=3 hit=3,1,p1\nev=4 done=no\nev=5 done=yes\nev=6 hit=4,1,p2\n\
+         ev=8 hit=4,2,p3\nev=13 hit=4,1,ctl\nev=14 hit=4,1,ctl\n"
     );
 }
 

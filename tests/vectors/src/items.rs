@@ -11,7 +11,7 @@
 //! counts.
 
 use reference::flow::{Action, Entry, Exact, Key, Match, Packet, Prefix};
-use reference::table::TableOperation;
+use reference::table::{Origin, TableOperation};
 use reference::trace::{Event, Operation};
 use std::collections::BTreeMap;
 use std::str::FromStr;
@@ -97,7 +97,8 @@ impl<'a> Items<'a> {
 
     fn table_operation(&mut self, word: &str) -> Result<TableOperation, String> {
         Ok(match word {
-            "pkt" => TableOperation::Packet(self.packet()?),
+            "pkt" => TableOperation::Packet(Origin::Received, self.packet()?),
+            "pout" => TableOperation::Packet(Origin::SentOut, self.packet()?),
             "add" => TableOperation::Add(self.entry()?),
             "addc" => TableOperation::CheckedAdd(self.entry()?),
             "mods" => TableOperation::StrictModify(self.entry()?),
@@ -190,10 +191,12 @@ mod tests {
     #[test]
     fn what_is_left_out_is_as_by_default() {
         assert_eq!(line("oth", &[]).unwrap(), "ev=7 do=oth in=- out=-");
-        assert_eq!(
-            line("pkt", &["sw=2", "in=4"]).unwrap(),
-            "ev=7 do=pkt in=4 out=- sw=2 port=1 src=0a000001 dst=0a000002 proto=6 sport=4000 dport=80"
-        );
+        for word in ["pkt", "pout"] {
+            assert_eq!(
+                line(word, &["sw=2", "in=4"]).unwrap(),
+                format!("ev=7 do={word} in=4 out=- sw=2 port=1 src=0a000001 dst=0a000002 proto=6 sport=4000 dport=80")
+            );
+        }
         assert_eq!(
             line("add", &["sw=1", "prio=10", "dst=0a000002/32", "act=p2"]).unwrap(),
             "ev=7 do=add in=- out=- sw=1 prio=10 port=* src=00000000/0 dst=0a000002/32 proto=* sport=* dport=* act=p2"

@@ -3,6 +3,7 @@
 use super::{commutes, Flat};
 use crate::flow::{Action, Entry, Key, Match, Prefix};
 use crate::packed::tests::random_match;
+use crate::table::Origin::{Received, SentOut};
 use crate::table::Table;
 use crate::table::TableOperation::{
     self, Add, CheckedAdd, Delete, Modify, Packet, StrictDelete, StrictModify,
@@ -23,6 +24,11 @@ fn entry(matching: Match, priority: u16, port: u16) -> Entry {
 
 fn packet(dst: u32) -> crate::flow::Packet {
     crate::flow::Packet { port: 1, src: 0, dst, proto: 6, sport: 4000, dport: 80 }
+}
+
+/// A packet received, and the same sent out.
+fn look_ups(packet: crate::flow::Packet) -> [TableOperation; 2] {
+    [Received, SentOut].map(|origin| Packet(origin, packet))
 }
 
 /// Whether both orders leave the same table and give each event the same answer.
@@ -71,7 +77,7 @@ fn marked_cases() {
         (Modify(a5p1), Modify(entry(D, 5, 1))),
         (Delete(A), delete_b5),
         (Delete(A), Add(entry(D, 5, 1))),
-        (Packet(packet(0x0b00_0000)), Add(a5p1)),
+        (Packet(Received, packet(0x0b00_0000)), Add(a5p1)),
     ];
     let racing = [
         (Add(a5p1), Add(a5p2)),
@@ -112,21 +118,45 @@ fn all_writes(matches: &[Match], priorities: &[u16], actions: &[Action]) -> Vec<
     writes
 }
 
-/// All pairs of events over six matches, closed under meets, two priorities and two actions, on
-/// all tables of at most two of their entries.
-#[test]
-fn all_pairs_of_a_small_world() {
+/// Packets to each part of the matches of [`small_world`].
+fn small_packets() -> impl Iterator<Item = crate::flow::Packet> {
+    let ports = |dst| [1, 2].map(|port| crate::flow::Packet { port, ..packet(dst) });
+    [0x0a00_0000, 0x0a01_0000, 0x0b00_0000].into_iter().flat_map(ports)
+}
+
+/// All events over six matches, closed under meets, two priorities and two actions, and all tables of
+/// at most two of their entries.
+fn small_world() -> (Vec<TableOperation>, Vec<Table>) {
     let port = |matching| Match { port: Some(1), ..matching };
     let matches = [Match::ANY, A, B, port(Match::ANY), port(A), port(B)];
     let (priorities, actions) = ([5, 6], [Action::Port(1), Action::Controller]);
     let mut events = all_writes(&matches, &priorities, &actions);
-    for dst in [0x0a00_0000, 0x0a01_0000, 0x0b00_0000] {
-        events.extend([1, 2].map(|port| Packet(crate::flow::Packet { port, ..packet(dst) })));
-    }
-    let tables = small_tables(&matches, &priorities, &actions);
+    events.extend(small_packets().flat_map(look_ups));
+    (events, small_tables(&matches, &priorities, &actions))
+}
+
+#[test]
+fn all_pairs_of_a_small_world() {
+    let (events, tables) = small_world();
     for (index, a) in events.iter().enumerate() {
         for b in &events[index..] {
             check(a, b, &tables);
+        }
+    }
+}
+
+/// It commutes with the same events as a packet received, finds the same, and leaves the table as it was.
+#[test]
+fn a_packet_sent_out_is_looked_up_as_one_received() {
+    let (events, tables) = small_world();
+    for [received, sent_out] in small_packets().map(look_ups) {
+        for event in &events {
+            assert_eq!(commutes(&sent_out, event), commutes(&received, event), "{sent_out:?}\n{event:?}");
+        }
+        for table in &tables {
+            let mut after = table.clone();
+            let answer = after.apply(&sent_out);
+            assert_eq!((answer, &after), (table.clone().apply(&received), table), "{sent_out:?}\n{table:?}");
         }
     }
 }
@@ -180,10 +210,10 @@ fn random_pairs() {
             }
         }
         let mut events = all_writes(&[m], &[5], &actions[..2]);
-        events.extend(packets.iter().map(|&p| Packet(p)));
+        events.extend(packets.iter().map(|&p| Packet(Received, p)));
         let a = random.pick(&events);
         let mut events = all_writes(&[n], &[5, 6], &actions[..2]);
-        events.extend(packets.iter().map(|&p| Packet(p)));
+        events.extend(packets.iter().map(|&p| Packet(SentOut, p)));
         let b = random.pick(&events);
         commuting += usize::from(commutes(&a, &b));
         check(&a, &b, &small_tables(&matches, &[5, 6], &actions));

@@ -1,6 +1,7 @@
 //! What is measured.
 
 use cases::{tables, traces};
+use reference::table::Origin::{Received, SentOut};
 
 /// A row of the tables: a call, or the process that makes it.
 pub struct Row {
@@ -43,9 +44,11 @@ pub fn rows() -> Vec<Row> {
         replay("256 adds onto 256 entries", traces::long_adds()),
         replay("256 `addc` onto 256 entries", traces::long_checked_adds()),
         replay("256 `modn` of 256 entries", traces::all_racing_modifies()),
-        replay("256 `pkt` onto 256 entries", traces::packets_to_the_last()),
+        replay("256 `pkt` onto 256 entries", traces::packets_to_the_last(Received)),
         page("empty input (floor)", Vec::new()),
         page("256 adds of one key: 32,640 pairs listed", traces::all_racing()),
         page("256 modifies of one key: 32,640 pairs listed", traces::all_racing_modifies()),
+        list("128 `pout` with a barrier after each", traces::barriers_and_packets()),
+        replay("256 `pout` onto 256 entries", traces::packets_to_the_last(SentOut)),
     ]
 }

@@ -63,6 +63,17 @@ fn any_operation(random: &mut Random, world: World, barrier_share: usize) -> Ope
     }
 }
 
+/// Some events with `pkt` for each `pout`.
+pub fn all_received(events: &[Event]) -> Vec<Event> {
+    let mut events = events.to_vec();
+    for event in &mut events {
+        if let Operation::Table(_, TableOperation::Packet(origin, _)) = &mut event.operation {
+            *origin = Origin::Received;
+        }
+    }
+    events
+}
+
 /// Events without tokens.
 fn apart(operations: impl IntoIterator<Item = Operation>) -> Vec<Event> {
     let event = |operation| Event { operation, taken: Vec::new(), put: Vec::new() };
@@ -96,13 +107,20 @@ pub fn token_chain() -> Vec<u8> {
     trace_text(&events)
 }
 
+/// 128 operations of one switch with a barrier after each.
+fn with_barriers(operation: impl Fn(u16) -> TableOperation) -> Vec<u8> {
+    let two = |n| [Operation::Table(1, operation(n)), Operation::Barrier(1)];
+    trace_text(&apart((0..128).flat_map(two)))
+}
+
 /// 128 adds of one switch with a barrier after each.
 pub fn barriers() -> Vec<u8> {
-    let two = |n| {
-        let add = Operation::Table(1, TableOperation::Add(entry(Match::ANY, n)));
-        [add, Operation::Barrier(1)]
-    };
-    trace_text(&apart((0..128).flat_map(two)))
+    with_barriers(|n| TableOperation::Add(entry(Match::ANY, n)))
+}
+
+/// 128 packets sent out on one switch with a barrier after each.
+pub fn barriers_and_packets() -> Vec<u8> {
+    with_barriers(|_| TableOperation::Packet(Origin::SentOut, FITTING_PACKET))
 }
 
 /// 256 barriers of one switch: each directly precedes all later ones.
@@ -127,22 +145,25 @@ pub fn long_checked_adds() -> Vec<u8> {
 }
 
 /// 256 packets, each of which fits the last entry of [`crate::tables::reversed`] in table order and no other.
-pub fn packets_to_the_last() -> Vec<u8> {
+pub fn packets_to_the_last(origin: Origin) -> Vec<u8> {
     let packet =
         Packet { port: 60_255, src: 0xffff_fff1, dst: 0xffff_fff1, proto: 255, sport: 65_535, dport: 65_535 };
-    let look_up = |_| Operation::Table(LONG_SWITCH, TableOperation::Packet(Origin::Received, packet));
+    let look_up = |_| Operation::Table(LONG_SWITCH, TableOperation::Packet(origin, packet));
     trace_text(&apart((0..256).map(look_up)))
 }
 
+/// The packet that fits all entries of [`crate::tables::all_fitting`], received.
+const FITTING: TableOperation = TableOperation::Packet(Origin::Received, FITTING_PACKET);
+
 /// 256 packets, each of which fits all entries of [`crate::tables::all_fitting`].
 pub fn packets_to_all() -> Vec<u8> {
-    let look_up = |_| Operation::Table(LONG_SWITCH, TableOperation::Packet(Origin::Received, FITTING_PACKET));
+    let look_up = |_| Operation::Table(LONG_SWITCH, FITTING);
     trace_text(&apart((0..256).map(look_up)))
 }
 
 /// 255 adds of the entries after those of [`crate::tables::all_fitting`], and then a packet that fits all 511.
 pub fn packet_to_511() -> Vec<u8> {
     let add = |n| TableOperation::Add(fitting_entry(n));
-    let operations = (256..511).map(add).chain([TableOperation::Packet(Origin::Received, FITTING_PACKET)]);
+    let operations = (256..511).map(add).chain([FITTING]);
     trace_text(&apart(operations.map(|operation| Operation::Table(LONG_SWITCH, operation))))
 }

@@ -5,17 +5,18 @@ use cases::damage::damaged;
 use cases::orders::{all_orders, any_allowed, any_damaged, is_allowed};
 use cases::print::{tables_text, trace_text};
 use cases::tables::{self, any_tables};
-use cases::traces::{self, any_length, any_trace};
+use cases::traces::{self, all_received, any_length, any_trace};
 use cases::{Random, World};
 use reference::causality::directly_precedes;
 use reference::races::racing_pairs;
 use reference::replay::recorded_order;
+use reference::table::Origin::{Received, SentOut};
 use reference::trace::Event;
 use reference::{
     happens_before, list, normal_text, normalise, page, read_tables, read_trace, replay, Counts, Refusal,
     PAGE_ROOM,
 };
-use std::collections::BTreeMap;
+use std::collections::{BTreeMap, BTreeSet};
 
 #[test]
 fn valid_texts_are_accepted() {
@@ -186,6 +187,32 @@ fn random_allowed_orders() {
     assert!(moved > 300, "{moved} orders differ from the recorded one");
 }
 
+/// With `pkt` for each `pout` fewer events are ordered and more pairs listed; what the recorded order does stays.
+#[test]
+fn packets_sent_out_as_received() {
+    let mut random = Random::from_seed(7);
+    let mut more = 0;
+    for _ in 0..600 {
+        let world = World { wide: false, switches: random.pick(&[1, 2]) };
+        let length = any_length(&mut random);
+        let events = any_trace(&mut random, world, length);
+        let both = [all_received(&events), events];
+        let [received, sent_out] = both.each_ref().map(|events| happens_before(events));
+        assert!(received.iter().zip(&sent_out).all(|(before, more)| before.within(more)));
+        let (counts, listed) = racing_pairs(&both[0], &received);
+        let (fewer, part) = racing_pairs(&both[1], &sent_out);
+        assert_eq!(counts.pairs, fewer.pairs);
+        assert!(part.iter().collect::<BTreeSet<_>>().is_subset(&listed.iter().collect()));
+        more += usize::from(fewer.listed < counts.listed);
+        let tables = tables_text(&any_tables(&mut random, world, length));
+        let order = recorded_order(length);
+        let [received, sent_out] = both.map(|events| replayed(&trace_text(&events), &tables, &order));
+        assert!(received.is_ok());
+        assert_eq!(received, sent_out);
+    }
+    assert!(more > 100, "{more} lists are longer");
+}
+
 #[test]
 fn worst_cases() {
     let mut room = vec![0; 65_280];
@@ -197,10 +224,13 @@ fn worst_cases() {
     assert_eq!(counts(&traces::all_racing_modifies()), racing);
     assert_eq!(counts(&traces::token_chain()), Counts { ordered: all, listed: 0, ..racing });
     let half = 128 * 127 / 2;
-    assert_eq!(counts(&traces::barriers()), Counts { pairs: half, ordered: half, commuting: 0, listed: 0 });
+    for trace in [traces::barriers(), traces::barriers_and_packets()] {
+        assert_eq!(counts(&trace), Counts { pairs: half, ordered: half, commuting: 0, listed: 0 });
+    }
     assert_eq!(counts(&traces::only_barriers()), Counts::default());
     let commuting = Counts { commuting: all, listed: 0, ..racing };
-    for trace in [traces::long_adds(), traces::long_checked_adds(), traces::packets_to_the_last()] {
+    let [received, sent_out] = [Received, SentOut].map(traces::packets_to_the_last);
+    for trace in [traces::long_adds(), traces::long_checked_adds(), received, sent_out] {
         assert_eq!(counts(&trace), commuting);
     }
     assert_eq!(normal_of(&tables::reversed()), tables::sorted());
@@ -217,5 +247,7 @@ fn worst_cases_replayed() {
     assert_eq!(replay(&traces::long_checked_adds()), (end, answers("done=yes")));
     let last = String::from_utf8(tables::sorted()).unwrap().replace("act=p65535", "act=p255");
     assert_eq!(replay(&traces::all_racing_modifies()), (last.into_bytes(), Vec::new()));
-    assert_eq!(replay(&traces::packets_to_the_last()), (tables::sorted(), answers("hit=65535,1,p65535")));
+    for packets in [Received, SentOut].map(traces::packets_to_the_last) {
+        assert_eq!(replay(&packets), (tables::sorted(), answers("hit=65535,1,p65535")));
+    }
 }

@@ -5,13 +5,13 @@ use cases::damage::damaged;
 use cases::orders::{all_orders, any_allowed, any_damaged, is_allowed};
 use cases::print::{tables_text, trace_text};
 use cases::tables::any_tables;
-use cases::traces::{any_length, any_trace};
+use cases::traces::{all_received, any_length, any_trace};
 use cases::{lengths_around, Random, World};
 use differential::{list, normalise, page, replay, Answer};
 use reference::races::racing_pairs;
 use reference::replay::recorded_order;
 use reference::{happens_before, Counts};
-use std::collections::BTreeMap;
+use std::collections::{BTreeMap, BTreeSet};
 
 const LIST_ROOM: usize = 65_280;
 /// Room for the page of any seven events.
@@ -59,9 +59,23 @@ fn read_back(page: &[u8]) -> (Counts, Vec<u8>) {
     (counts, events.map(|event| event.trim_start().parse().expect("an event")).collect())
 }
 
+/// The words on a page, those of the lower and the higher event of each pair.
+fn words_on(page: &[u8]) -> Vec<&str> {
+    let pairs = page.chunks(61).take(page.len() / 61 - 4);
+    let words = pairs.flat_map(|line| [&line[11..15], &line[16..20]]);
+    words.map(|word| std::str::from_utf8(word).expect("a page is ASCII").trim_end()).collect()
+}
+
+/// The word of each line of a trace.
+fn words_in(trace: &[u8]) -> Vec<&str> {
+    let lines = std::str::from_utf8(trace).expect("a valid trace is ASCII").lines();
+    lines.map(|line| line.split(['=', ' ']).nth(3).expect("a word")).collect()
+}
+
 #[test]
 fn lists_and_pages_of_valid_traces() {
     let mut random = Random::from_seed(101);
+    let mut met: BTreeSet<String> = BTreeSet::new();
     for _ in 0..1_000 {
         let world = World::any(&mut random);
         let length = any_length(&mut random);
@@ -77,8 +91,13 @@ fn lists_and_pages_of_valid_traces() {
             assert_eq!(answer.is_ok(), room >= 61 * lines);
         }
         let made = page(&trace, 61 * lines).expect("a valid trace");
+        let (words, all) = (words_on(&made), words_in(&trace));
+        assert_eq!(words, pairs.iter().map(|&event| all[usize::from(event)]).collect::<Vec<_>>());
+        met.extend(words.into_iter().map(str::to_owned));
         assert_eq!(read_back(&made), (counts, pairs));
     }
+    let words = ["add", "addc", "deln", "dels", "modn", "mods", "pkt", "pout"];
+    assert!(met.iter().eq(&words), "{met:?}");
 }
 
 #[test]
@@ -101,6 +120,30 @@ fn lists_and_pages_of_damaged_traces() {
     }
     met.assert_all(&[0, 1, 2, 3, 4, 5, 6, 7, 8, 31], 50);
     met_by_page.assert_all(&[0, 1, 2, 3, 4, 5, 6, 7, 8, 51], 50);
+}
+
+/// With `pkt` for each `pout` there are as many pairs, all that were listed are, and the recorded order leaves the same
+/// tables and gives the same answers.
+#[test]
+fn packets_sent_out_as_received() {
+    let mut random = Random::from_seed(110);
+    let mut more = 0;
+    for _ in 0..500 {
+        let world = World { wide: false, switches: random.pick(&[1, 2]) };
+        let (length, lines) = (any_length(&mut random), any_length(&mut random));
+        let events = any_trace(&mut random, world, length);
+        let traces = [trace_text(&events), trace_text(&all_received(&events))];
+        let [(fewer, part), (counts, pairs)] = traces.each_ref().map(|trace| listed(trace));
+        assert_eq!(fewer.pairs, counts.pairs);
+        let [part, pairs] = [&part, &pairs].map(|list| list.chunks(2).collect::<BTreeSet<_>>());
+        assert!(part.is_subset(&pairs));
+        more += usize::from(part.len() < pairs.len());
+        let tables = tables_text(&any_tables(&mut random, world, lines));
+        let replay = |trace: &Vec<u8>| replay(trace, &tables, &recorded_order(length), ROOMS);
+        let [sent_out, received] = traces.each_ref().map(|trace| replay(trace).expect("all valid"));
+        assert_eq!(sent_out, received);
+    }
+    assert!(more > 100, "{more} lists are longer");
 }
 
 /// On short traces, many of which make the same page.

@@ -3,6 +3,7 @@
 use cases::{lengths_around, tables, traces};
 use differential::{list, normalise, page, replay};
 use reference::replay::recorded_order;
+use reference::table::Origin;
 use std::collections::BTreeSet;
 
 fn refused<T: std::fmt::Debug>(answer: differential::Answer<T>) -> (usize, usize) {
@@ -57,32 +58,58 @@ fn single_bytes_and_pairs_of_bytes() {
     assert!(list(b"", 0).is_ok() && normalise(b"", 0).is_ok() && replay(b"", b"", b"", [0, 0]).is_ok());
 }
 
+const MATCHING: &str = "port=* src=0a000000/8 dst=0a010000/16 proto=6 sport=* dport=80";
+
+/// Each word, and what may stand behind it.
+fn kinds_of_line() -> [(&'static str, String); 11] {
+    let packet = "sw=1 port=1 src=0a000001 dst=ffffffff proto=255 sport=0 dport=65535";
+    [
+        ("oth", "in=65535 out=1,2,3,4".to_owned()),
+        ("bar", "in=- out=7 sw=15".to_owned()),
+        ("msg", "in=0,10 out=- sw=0".to_owned()),
+        ("pkt", format!("in=- out=- {packet}")),
+        ("pout", format!("in=8,9 out=- {packet}")),
+        ("add", format!("in=- out=- sw=1 prio=10 {MATCHING} act=p2")),
+        ("addc", format!("in=- out=- sw=1 prio=10 {MATCHING} act=drop")),
+        ("mods", format!("in=- out=- sw=1 prio=10 {MATCHING} act=ctl")),
+        ("modn", format!("in=- out=- sw=1 prio=10 {MATCHING} act=p65535")),
+        ("dels", format!("in=- out=- sw=1 prio=0 {MATCHING}")),
+        ("deln", format!("in=- out=- sw=1 {MATCHING}")),
+    ]
+}
+
+/// Each word with what stands behind each other, and words that are none.
+#[test]
+fn every_word_in_every_kind_of_line() {
+    let words = kinds_of_line().map(|(word, _)| word);
+    let mut accepted = 0;
+    for (_, rest) in kinds_of_line() {
+        let is_accepted = |word: &str| {
+            let text = format!("ev=0 do={word} {rest}\n");
+            let _ = page(text.as_bytes(), 244);
+            list(text.as_bytes(), 0).is_ok()
+        };
+        accepted += words.iter().filter(|word| is_accepted(word)).count();
+        for word in ["", "pk", "pkts", "po", "pou", "pouts", "pout ", "poutin=-", "Pout", "ad", "other"] {
+            assert!(!is_accepted(word), "{word:?} {rest}");
+        }
+    }
+    // `bar` and `msg`, `pkt` and `pout`, and the four writes of an entry stand for one another.
+    assert_eq!(accepted, 1 + 2 * 2 + 2 * 2 + 4 * 4 + 1 + 1);
+}
+
 /// Every single byte of a valid line replaced, taken out, or doubled.
 #[test]
 fn every_byte_of_every_kind_of_line() {
-    let matching = "port=* src=0a000000/8 dst=0a010000/16 proto=6 sport=* dport=80";
-    let lines = [
-        "ev=0 do=oth in=65535 out=1,2,3,4".to_owned(),
-        "ev=0 do=bar in=- out=7 sw=15".to_owned(),
-        "ev=0 do=msg in=0,10 out=- sw=0".to_owned(),
-        "ev=0 do=pkt in=- out=- sw=1 port=1 src=0a000001 dst=ffffffff proto=255 sport=0 dport=65535"
-            .to_owned(),
-        format!("ev=0 do=add in=- out=- sw=1 prio=10 {matching} act=p2"),
-        format!("ev=0 do=addc in=- out=- sw=1 prio=10 {matching} act=drop"),
-        format!("ev=0 do=mods in=- out=- sw=1 prio=10 {matching} act=ctl"),
-        format!("ev=0 do=modn in=- out=- sw=1 prio=10 {matching} act=p65535"),
-        format!("ev=0 do=dels in=- out=- sw=1 prio=0 {matching}"),
-        format!("ev=0 do=deln in=- out=- sw=1 {matching}"),
-    ];
-    for line in lines {
-        let text = format!("{line}\n").into_bytes();
+    for (word, rest) in kinds_of_line() {
+        let text = format!("ev=0 do={word} {rest}\n").into_bytes();
         assert!(list(&text, 0).is_ok() && page(&text, 244).is_ok());
         each_change(&text, |changed| {
             let _ = list(changed, 0);
             let _ = page(changed, 244);
         });
     }
-    let text = format!("sw=1 prio=10 {matching} act=p2\n").into_bytes();
+    let text = format!("sw=1 prio=10 {MATCHING} act=p2\n").into_bytes();
     assert!(normalise(&text, 1_000).is_ok());
     each_change(&text, |changed| drop(normalise(changed, 1_000)));
 }
@@ -108,10 +135,12 @@ fn worst_cases() {
         traces::all_racing_modifies(),
         traces::token_chain(),
         traces::barriers(),
+        traces::barriers_and_packets(),
         traces::only_barriers(),
         traces::long_adds(),
         traces::long_checked_adds(),
-        traces::packets_to_the_last(),
+        traces::packets_to_the_last(Origin::Received),
+        traces::packets_to_the_last(Origin::SentOut),
     ];
     for trace in &traces {
         let (counts, _) = list(trace, 65_280).expect("a valid trace");
@@ -160,31 +189,34 @@ fn the_shortest_and_the_longest_page() {
 #[test]
 fn every_two_words_on_a_page() {
     let any = "port=* src=00000000/0 dst=00000000/0 proto=* sport=* dport=*";
-    let items = |number: usize, prio: u16| match number % 7 {
-        0 => ("pkt", "port=65535 src=ffffffff dst=ffffffff proto=255 sport=65535 dport=65535".to_owned()),
-        5 => ("dels", format!("prio={prio} {any}")),
-        6 => ("deln", any.to_owned()),
-        write => (["add", "addc", "mods", "modn"][write - 1], format!("prio={prio} {any} act=p{number}")),
+    let words = ["pkt", "pout", "add", "addc", "mods", "modn", "dels", "deln"];
+    let items = |number: usize, prio: u16| match number % 8 {
+        0 | 1 => "port=65535 src=ffffffff dst=ffffffff proto=255 sport=65535 dport=65535".to_owned(),
+        6 => format!("prio={prio} {any}"),
+        7 => any.to_owned(),
+        _ => format!("prio={prio} {any} act=p{number}"),
     };
     for (switch, prio) in [(0, 0), (9, 9), (10, 10), (11, 999), (14, 10_000), (15, 65_535)] {
-        for others in [0, 9, 91, 242] {
+        for others in [0, 9, 91, 240] {
             let event = |number: usize| {
-                let (word, items) = items(number, prio);
+                let (word, items) = (words[number % 8], items(number, prio));
                 format!("ev={} do={word} in=- out=- sw={switch} {items}\n", others + number)
             };
             let other = |number: usize| format!("ev={number} do=oth in=- out=-\n");
-            let trace: String = (0..others).map(other).chain((0..14).map(event)).collect();
-            let page = page(trace.as_bytes(), 61 * 88).expect("a valid trace");
+            let trace: String = (0..others).map(other).chain((0..16).map(event)).collect();
+            let page = page(trace.as_bytes(), 61 * 112).expect("a valid trace");
             let lines: Vec<&[u8]> = page.chunks(61).collect();
-            let words: BTreeSet<&[u8]> = lines[..84].iter().map(|line| &line[11..20]).collect();
-            assert_eq!(words.len(), 7 * 7 - 5, "all but packets and packets, deletes and deletes");
+            let words: BTreeSet<&[u8]> = lines[..108].iter().map(|line| &line[11..20]).collect();
+            assert_eq!(words.len(), 8 * 8 - 4 - 4, "all but packets and packets, deletes and deletes");
             let pair = |low: usize, high: usize, rest: String| {
                 format!("{:>3} {:>3} {switch:>2} {rest:<49}\n", others + low, others + high).into_bytes()
             };
-            assert_eq!(lines[0], pair(0, 1, format!("pkt  add      - {prio:>5}")));
-            assert_eq!(lines[5], pair(0, 6, "pkt  deln     -     -".to_owned()));
-            assert_eq!(lines[83], pair(11, 13, format!("modn deln {prio:>5}     -")));
-            assert_eq!(lines[84..].concat(), count_lines([91, 0, 7, 84]));
+            assert_eq!(lines[0], pair(0, 2, format!("pkt  add      - {prio:>5}")));
+            assert_eq!(lines[5], pair(0, 7, "pkt  deln     -     -".to_owned()));
+            assert_eq!(lines[12], pair(1, 2, format!("pout add      - {prio:>5}")));
+            assert_eq!(lines[30], pair(2, 9, format!("add  pout {prio:>5}     -")));
+            assert_eq!(lines[107], pair(13, 15, format!("modn deln {prio:>5}     -")));
+            assert_eq!(lines[108..].concat(), count_lines([120, 0, 12, 108]));
         }
     }
 }

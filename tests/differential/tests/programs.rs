@@ -9,6 +9,7 @@ use cases::{tables, traces, Random, World};
 use differential::{program, Folder};
 use reference::output::{normalised, racelist, racepage, replayed};
 use reference::replay::recorded_order;
+use reference::table::Origin;
 use std::io::Write;
 use std::process::Stdio;
 
@@ -85,7 +86,8 @@ fn replays() {
         traces::long_adds(),
         traces::long_checked_adds(),
         traces::all_racing_modifies(),
-        traces::packets_to_the_last(),
+        traces::packets_to_the_last(Origin::Received),
+        traces::packets_to_the_last(Origin::SentOut),
     ] {
         replay(&trace, &tables::reversed(), None);
     }

@@ -1,8 +1,8 @@
 // Prints the report on each trace text of its data files. What must come out is in the file `stdout`.
 
 // The files 000 and on: the worked lines and no events; each refusal; barriers, messages and chains through tokens; pairs that commute or
-// do not; 256 events; traces drawn at random; from 047 on barriers and chains again, every two operations, many switches and events.
-const CASES: u8 = 69;
+// do not; 256 events; traces drawn at random; from 053 on barriers and chains again, every two operations, many switches and events.
+const CASES: u8 = 76;
 
 fn print_report(trace: &[u8]) {
     let mut out = list_report::room();
@@ -42,6 +42,8 @@ fn rehearsals() {
     run(b"overlap_repaired");
     run(b"aisle");
     run(b"aisle_repaired");
+    run(b"sent_out_as_pkt");
+    run(b"sent_out");
 }
 
 fn main() {

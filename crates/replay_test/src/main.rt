@@ -1,6 +1,7 @@
 // Replays the traces of its data files in the recorded order, into buffers that are a byte too short, and in the orders of another
 // file, a line for each. What must come out is in the file `stdout`: `ops` has each operation and its answers, each on a switch of
-// its own; `small` all 120 orders of five events, and orders that are none; `full` 256 events on 256 entries.
+// its own; `small` all 120 orders of five events, and orders that are none; `pout` all 24 orders of a rule, a barrier and two
+// packets; `full` 256 events on 256 entries.
 use call_answers::ReplayAnswer;
 use program_input::Input;
 
@@ -127,5 +128,6 @@ fn replay_files(name: &[u8], trace_name: &[u8], tables_name: &[u8], orders_name:
 fn main() {
     replay_files(b"ops", b"ops_trace", b"ops_tables", b"ops_orders");
     replay_files(b"small", b"small_trace", b"small_tables", b"small_orders");
+    replay_files(b"pout", b"pout_trace", b"pout_tables", b"pout_orders");
     replay_files(b"full", b"full_trace", b"full_tables", b"full_orders");
 }

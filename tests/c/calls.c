@@ -1,5 +1,5 @@
 /*
- * The calls from C, on the worked lines of document 01:
+ * The calls from C, on the worked lines of document 01 and a few others:
  *
  *     cc -Wall -Wextra -Iinclude tests/c/calls.c target/staticlib/libexports.a -o target/calls && target/calls
  */
@@ -23,6 +23,12 @@ static const char ANSWERS[] = "ev=0 hit=-\nev=4 hit=10,1,p3\n";
 
 static const char BAD[] = "sw=1\nsw=2\n";
 
+/* A barrier between a rule and a packet of this word. */
+#define RULE_BARRIER_PACKET(word)                                                                                \
+    "ev=0 do=add in=- out=- sw=1 prio=10 port=* src=00000000/0 dst=0a000002/32 proto=* sport=* dport=* act=p2\n" \
+    "ev=1 do=bar in=- out=- sw=1\n"                                                                              \
+    "ev=2 do=" word " in=- out=- sw=1 port=1 src=0a000001 dst=0a000002 proto=6 sport=4000 dport=80\n"
+
 static int failures = 0;
 
 static void expect(int holds, const char *what) {
@@ -44,6 +50,17 @@ static void list(void) {
     expect(a.refused.number == 31 && a.refused.place == 2 && a.listed == 0, "a short buffer");
     a = gellunka_list_races(bytes(TRACE), strlen(TRACE) - 1, out, 4);
     expect(a.refused.number == 2 && a.refused.place == 0, "a trace whose last byte is not LF");
+}
+
+static void packets(void) {
+    static const char SENT_OUT[] = RULE_BARRIER_PACKET("pout"), RECEIVED[] = RULE_BARRIER_PACKET("pkt");
+    uint8_t out[2] = {9, 9};
+    struct gellunka_listed a = gellunka_list_races(bytes(SENT_OUT), strlen(SENT_OUT), out, 2);
+    expect(a.refused.number == 0 && a.pairs == 1 && a.ordered == 1 && a.listed == 0, "a barrier orders a packet sent out");
+    expect(out[0] == 9 && out[1] == 9, "an empty list");
+    a = gellunka_list_races(bytes(RECEIVED), strlen(RECEIVED), out, 2);
+    expect(a.refused.number == 0 && a.pairs == 1 && a.ordered == 0 && a.listed == 1, "but no packet received");
+    expect(out[0] == 0 && out[1] == 2, "the pair of rule and packet");
 }
 
 static int all_are(const uint8_t *from, size_t length, uint8_t byte) {
@@ -99,6 +116,7 @@ static void replay(void) {
 
 int main(void) {
     list();
+    packets();
     page();
     normalise();
     replay();

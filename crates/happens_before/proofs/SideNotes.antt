@@ -6,8 +6,9 @@ use mathlib.Core.Bool.{Bool, true, false, or-false}
 use mathlib.Core.List.{List}
 use lib.ListN.{length, getD}
 use Rattle.trace_events.specs.Events.{eventsOf, noEvent}
+use Rattle.trace_events.specs.Precedence.{tokenStep}
 use Rattle.trace_events.specs.Inner.{noSide, sideOf, sideStep, mayPassTo}
-use Rattle.trace_events.proofs.SideLaws.{by-barrier, by-neither}
+use Rattle.trace_events.proofs.SideLaws.{by-barrier, by-token, by-neither}
 use Rattle.basics.specs.Searches.{anyBelow}
 use Rattle.happens_before.specs.Types.{Side, Event, Trace}
 use Rattle.happens_before.specs.Causality.{step, through}
@@ -28,6 +29,9 @@ module _ (t : Trace) (fits : t .len ≤ length (t .events)) (sides : List Side) 
 
   pub a-step : sideStep (getD sides k noSide) s ≡ true → step (eventsOf t) k j ≡ true
   a-step g = step-at t fits k j l m ∙ by-barrier _ _ (as-noted sideStep ∙ g)
+
+  pub token-step : sideStep (getD sides k noSide) s ≡ false → step (eventsOf t) k j ≡ tokenStep (getD (t .events) k noEvent .head) (getD (t .events) j noEvent .head)
+  token-step g = step-at t fits k j l m ∙ by-token _ _ (as-noted sideStep ∙ g)
 
   pub no-step : sideStep (getD sides k noSide) s ≡ false → mayPassTo (getD sides k noSide) s ≡ false → step (eventsOf t) k j ≡ false
   no-step g h = step-at t fits k j l m ∙ by-neither _ _ (as-noted sideStep ∙ g) (as-noted mayPassTo ∙ h)

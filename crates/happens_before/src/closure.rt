@@ -9,8 +9,8 @@ ghost use Rattle.trace_events.specs.Events.{eventsOf};
 ghost use Rattle.happens_before.specs.Inner.{bit, HappensBefore};
 
 // For each event the set of those before it: the union of its direct predecessors and their rows, which are filled already. Past the
-// last event the rows stay empty. Both loops stand here, since an inner call would copy the events at each turn; of most pairs the two
-// sides tell whether the earlier event directly precedes the later one.
+// last event the rows stay empty. Both loops stand here, since an inner call would copy the events at each turn; the two sides
+// tell whether there is a barrier step, and of most pairs that no token passes.
 pub fn happens_before(t: Trace) -> [[u64; 4]; 256]
     requires { ⌜ t .len ≤ 256 ⌝ }
     ensures { λ r. ⌜ HappensBefore (eventsOf t) r ⌝ }
@@ -22,6 +22,7 @@ pub fn happens_before(t: Trace) -> [[u64; 4]; 256]
     for j in 0..n {
         let second = t.events[j];
         let later = second.side();
+        let taker = second.head;
         let mut set = [0u64; 4];
         for k in 0..j {
             let side = sides[k];
@@ -35,9 +36,10 @@ pub fn happens_before(t: Trace) -> [[u64; 4]; 256]
                 continue;
             }
             let first = t.events[k];
+            let giver = first.head;
             let row = rows[k];
-            let precedes = first.precedes(second);
-            let next = join_if(set, row, k as u8, precedes);
+            let passes = giver.passes_to(taker);
+            let next = join_if(set, row, k as u8, passes);
             set = next;
         }
         rows[j] = set;

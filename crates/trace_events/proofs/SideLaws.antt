@@ -1,8 +1,8 @@
 -- What a quick look at two events tells of direct precedence. Assumes nothing.
 use Prim.Native.Nat.{ℕ, zero, suc}
-use mathlib.Core.Path.{_≡_, refl, sym, ap, ap₂, _∙_}
+use mathlib.Core.Path.{_≡_, refl, sym, ap, _∙_}
 use mathlib.Core.List.{List, [], _∷_}
-use mathlib.Core.Bool.{true, false, _&&_, _||_, or-true, true≢false}
+use mathlib.Core.Bool.{true, false, _&&_, or-true, or-false, true≢false}
 use native.Mathlib.Omega.{arith}
 use lib.Dec.{ltb}
 use lib.ListN.{take}
@@ -52,8 +52,13 @@ module _ (a b : Event) where
   unfolding precedes
   by-barrier e = rw (sym step-is ∙ e, or-true) refl
 
+  -- by a token, where there is no barrier step
+  pub by-token : sideStep (sideOf (a .head) (a .operation)) (sideOf (b .head) (b .operation)) ≡ false → precedes a b ≡ tokenStep (a .head) (b .head)
+  unfolding precedes
+  by-token e = rw (sym step-is ∙ e) (or-false (tokenStep (a .head) (b .head)))
+
   -- by neither step
   pub by-neither : sideStep (sideOf (a .head) (a .operation)) (sideOf (b .head) (b .operation)) ≡ false
       → mayPassTo (sideOf (a .head) (a .operation)) (sideOf (b .head) (b .operation)) ≡ false → precedes a b ≡ false
-  unfolding precedes mayPassTo sideOf
-  by-neither e f = ap₂ _||_ (no-token-step (a .head) (b .head) f) (sym step-is ∙ e)
+  unfolding mayPassTo sideOf
+  by-neither e f = by-token e ∙ no-token-step (a .head) (b .head) f

@@ -5,7 +5,6 @@ use crate::side::side_of;
 use flow_table::Operation;
 ghost use mathlib.Core.Path.{_≡_};
 ghost use Rattle.trace_events.specs.Inner.{sideOf};
-ghost use Rattle.trace_events.specs.Precedence.{precedes};
 
 pub struct Event {
     pub head: Head,
@@ -19,16 +18,5 @@ impl Event {
         let head = self.head;
         let o = self.operation;
         side_of(head, o)
-    }
-
-    // The event directly precedes the other, whose line is later.
-    pub fn precedes(self, other: Event) -> bool
-        ensures { λ r. ⌜ r ≡ precedes self other ⌝ }
-    {
-        let head = self.head;
-        let later = other.head;
-        let a = self.side();
-        let b = other.side();
-        head.passes_to(later) | a.barrier_step(b)
     }
 }

@@ -12,8 +12,8 @@ use Rattle.basics.proofs.Arrays.{length-mapped, noted-more}
 use Rattle.basics.proofs.Booleans.{was, was-false}
 use Rattle.trace_events.specs.Inner.{noSide}
 use Rattle.happens_before.specs.Inner.{member}
-use Rattle.happens_before.proofs.RowLaws.{Filled, step-at, joined, filled-at, filled-none, filled-more, filled-all}
-use Rattle.happens_before.proofs.SideNotes.{Noted, sideAt, a-step, no-step, passed-by}
+use Rattle.happens_before.proofs.RowLaws.{Filled, joined, filled-at, filled-none, filled-more, filled-all}
+use Rattle.happens_before.proofs.SideNotes.{Noted, sideAt, a-step, token-step, no-step, passed-by}
 use Rattle.happens_before.proofs.Chains.{row-union}
 use Rattle.happens_before.specs.Causality.{through}
 use Rattle.happens_before.proofs.SetLaws.{member-none}
@@ -21,10 +21,10 @@ use Rattle.happens_before.proofs.closure.happens_before.Statement.{stat
 use Rattle.happens_before.proofs.closure.happens_before.Tie as tie
 
 abbrev Inv-loop2 : tie.InvT-loop2
-Inv-loop2 t n rows sides j second later set₀ k₀ set k = (k ≤ j) × ((i : ℕ) → member set i ≡ anyBelow (through (eventsOf t) i j) k)
+Inv-loop2 t n rows sides j later taker set₀ k₀ set k = (k ≤ j) × ((i : ℕ) → member set i ≡ anyBelow (through (eventsOf t) i j) k)
 
 abbrev μ-loop2 : tie.MeasureT-loop2
-μ-loop2 t n rows sides j second later set₀ k₀ set k = j - k
+μ-loop2 t n rows sides j later taker set₀ k₀ set k = j - k
 
 abbrev Inv-loop : tie.InvT-loop
 Inv-loop t n rows₀ sides₀ j₀ rows sides j =
@@ -43,11 +43,11 @@ loop2-again : tie.Need-loop2-again Inv-loop2 μ-loop2 Inv-loop μ-loop
 loop2-again c =
     let stepped = c .before .before .before in
     let l = stepped .before .before .before in
-    let o = l .before .before .before .before in
+    let o = l .before .before .before .before .before in
     let t = o .before .before .args .t1 in
     let k = l .loop2 .k in
     let fits : t .len ≤ length (t .events) = omega (arith, o .before .before .pre) in
-    let is = a-step t fits (o .loop .sides) (o .loop .j) k (o .loop .inv .5) (omega arith) (omega arith) (l .before .side .ensures) (was (stepped .barrier-step .ensures) (c .before .before .if1 .taken)) in (
+    let is = a-step t fits (o .loop .sides) (o .loop .j) k (o .loop .inv .5) (omega arith) (omega arith) (l .before .before .side .ensures) (was (stepped .barrier-step .ensures) (c .before .before .if1 .taken)) in (
       omega arith,
       λ i. joined (eventsOf t) i _ k (c .join-if .ensures i) (l .loop2 .inv .1 i) (sym is) (filled-at (eventsOf t) _ _ (o .loop .inv .3) i k (omega arith)),
     )
@@ -57,11 +57,11 @@ loop2-again-2 c =
     let asked = c .before in
     let stepped = asked .before .before in
     let l = stepped .before .before .before in
-    let o = l .before .before .before .before in
+    let o = l .before .before .before .before .before in
     let t = o .before .before .args .t1 in
     let k = l .loop2 .k in
     let fits : t .len ≤ length (t .events) = omega (arith, o .before .before .pre) in
-    let none = no-step t fits (o .loop .sides) (o .loop .j) k (o .loop .inv .5) (omega arith) (omega arith) (l .before .side .ensures)
+    let none = no-step t fits (o .loop .sides) (o .loop .j) k (o .loop .inv .5) (omega arith) (omega arith) (l .before .before .side .ensures)
     (was (stepped .barrier-step .ensures) (asked .before .if1 .left)) (was-false (asked .may-pass-to .ensures) (c .if2 .taken)) in (
       omega arith,
       λ i. passed-by (eventsOf t) i _ k (l .loop2 .inv .1 i) none,
@@ -69,22 +69,24 @@ loop2-again-2 c =
 
 loop2-again-3 : tie.Need-loop2-again-3 Inv-loop2 μ-loop2 Inv-loop μ-loop
 loop2-again-3 c =
-    let asked = c .before .before .before .before .before in
+    let asked = c .before .before .before .before .before .before in
     let l = asked .before .before .before .before .before in
-    let o = l .before .before .before .before in
+    let o = l .before .before .before .before .before in
     let t = o .before .before .args .t1 in
     let k = l .loop2 .k in
-    let fits : t .len ≤ length (t .events) = omega (arith, o .before .before .pre) in (
+    let fits : t .len ≤ length (t .events) = omega (arith, o .before .before .pre) in
+    let by-token = token-step t fits (o .loop .sides) (o .loop .j) k (o .loop .inv .5) (omega arith) (omega arith) (l .before .before .side .ensures)
+    (was (asked .before .before .barrier-step .ensures) (asked .before .if1 .left)) in (
       omega arith,
       λ i. joined (eventsOf t) i _ k (c .join-if2 .ensures i) (l .loop2 .inv .1 i)
-          (c .before .precedes .ensures ∙ sym (step-at t fits k _ (omega arith) (omega arith)))
+          (c .before .passes-to .ensures ∙ sym by-token)
           (filled-at (eventsOf t) _ _ (o .loop .inv .3) i k (omega arith)),
     )
 
 loop-again : tie.Need-loop-again Inv-loop2 μ-loop2 Inv-loop μ-loop
 loop-again c =
     let i2 = c .before .loop2 in
-    let s = c .before .before in
+    let s = c .before .before .before in
     let o = s .before .before .before in
     let e : i2 .k ≡ o .loop .j = omega arith in (
       omega arith,

@@ -2,3 +2,4 @@ pub mod TokenLaws
 pub mod TraceLaws
 pub mod SideLaws
 pub mod Precedes
+pub mod SentOut

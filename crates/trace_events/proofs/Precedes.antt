@@ -2,13 +2,13 @@
 use Prim.Native.Nat.{ℕ}
 use mathlib.Core.Path.{_≡_, refl, sym, ap, _∙_}
 use mathlib.Core.Logic.{_↔_, _⊎_, inl, inr, ⊎-elim}
-use mathlib.Core.Bool.{true, false, _&&_, _||_, or-true, false≢true}
+use mathlib.Core.Bool.{true, _&&_, _||_, or-true, false≢true}
 use lib.Dec.{eqb}
 use borrow.Author.Tests.{eqb-true, eq-eqb}
 use Rattle.flow_table.specs.Switches.{switchOf}
-use Rattle.basics.proofs.Booleans.{and-left, and-right, and-intro, and-true, and-false-right, or-cases}
+use Rattle.basics.proofs.Booleans.{and-left, and-right, and-intro, or-cases}
 use Rattle.basics.proofs.Searches.{has-iff, shares-found, shares-at}
-use Rattle.trace_events.specs.Types.{Packet, Origin, TableOperation, Operation, Head, Event}
+use Rattle.trace_events.specs.Types.{Origin, TableOperation, Operation, Head, Event}
 use Rattle.trace_events.specs.Events.{tokensOf, isBarrier, isMessage, barrierOrders}
 use Rattle.trace_events.specs.Precedence.{barrierStep, tokenStep, precedes, Write, Among, BarrierJoins, TokenPasses, DirectlyPrecedes}
 
@@ -93,31 +93,6 @@ module _ (o p : Operation) where
         let g = is-among (j .second) in
         and-intro (and-intro (and-intro (eq-eqb (switchOf o) (switchOf p) (f .0 ∙ sym (g .0))) (f .1)) (g .1)) (one-barrier (j .switch) (j .one-is-bar)),
   )
-
--- a barrier and a packet sent out: a step exactly where they are of one switch, whichever comes first
-module _ (v w : ℕ) (p : Packet) where
-  pub barrier-orders-pout : barrierStep (Operation.Barrier v) (Operation.Table w (TableOperation.Packet Origin.SentOut p)) ≡ eqb v w
-  unfolding barrierStep
-  barrier-orders-pout = and-true _ ∙ and-true _ ∙ and-true _
-
-  pub pout-before-barrier : barrierStep (Operation.Table w (TableOperation.Packet Origin.SentOut p)) (Operation.Barrier v) ≡ eqb w v
-  unfolding barrierStep
-  pout-before-barrier = and-true _ ∙ and-true _ ∙ and-true _
-
--- no step begins or ends at a packet received
-module _ (o : Operation) (w : ℕ) (p : Packet) where
-  pub barrier-passes-pkt : barrierStep o (Operation.Table w (TableOperation.Packet Origin.Received p)) ≡ false
-  unfolding barrierStep
-  barrier-passes-pkt = rw (and-false-right (eqb (switchOf o) w && barrierOrders o) refl) refl
-
-  pub pkt-passes-barrier : barrierStep (Operation.Table w (TableOperation.Packet Origin.Received p)) o ≡ false
-  unfolding barrierStep
-  pkt-passes-barrier = rw (and-false-right (eqb w (switchOf o)) refl) refl
-
--- nor where neither is a barrier: two packets sent out, or one and a write
-pub no-bar-no-step : (o p : Operation) → isBarrier o ≡ false → isBarrier p ≡ false → barrierStep o p ≡ false
-unfolding barrierStep
-no-bar-no-step o p e f = and-false-right (eqb (switchOf o) (switchOf p) && barrierOrders o && barrierOrders p) (rw (e, f) refl)
 
 -- a directly precedes b
 pub precedes-iff : (a b : Event) → (precedes a b ≡ true) ↔ DirectlyPrecedes a b

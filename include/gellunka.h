@@ -103,7 +103,9 @@ struct gellunka_replayed {
  * `out` are the listed pairs, two bytes each, lower event and then higher event, in rising order; the bytes
  * after them are as they were. A pair is listed exactly if both events use the table of one switch, neither
  * happens before the other, and there is a table on which the two orders leave different tables or give one
- * of them a different answer.
+ * of them a different answer. One event happens before another by steps to later lines: by a token that is
+ * put out and taken in, and on one switch from a `bar` to a write, `bar`, `msg` or `pout`, or from one of these
+ * to a `bar`; no barrier orders a `pkt`.
  */
 struct gellunka_listed gellunka_list_races(const uint8_t *trace, size_t trace_length, uint8_t *out,
                                            size_t out_length);
@@ -147,7 +149,8 @@ struct gellunka_normalised gellunka_normalise(const uint8_t *tables, size_t tabl
  *
  * Refuses by 1 to 8, 11 to 16, 21, 22, 32 and 33, in this order, and leaves both output buffers as they were
  * then. Otherwise the first `tables` bytes of `tables_out` are the end tables in normal form, and the first
- * `answers` bytes of `answers_out` the answer lines by rising event; the bytes after them are as they were.
+ * `answers` bytes of `answers_out` the answer lines by rising event, one for each `pkt`, `pout` and `addc`; the
+ * bytes after them are as they were.
  * Orders that keep happens-before and have every listed pair in recorded order all write the same bytes,
  * those of the recorded order.
  */

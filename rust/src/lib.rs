@@ -96,7 +96,9 @@ pub struct Lengths {
 /// event, in rising order; the bytes after them are as they were. [`Counts::pairs_in`] reads them.
 ///
 /// A pair is listed exactly if both events use the table of one switch, neither happens before the other, and
-/// there is a table on which the two orders leave different tables or give one of them a different answer.
+/// there is a table on which the two orders leave different tables or give one of them a different answer. One event
+/// happens before another by steps to later lines: by a token that is put out and taken in, and on one switch from a
+/// `bar` to a write, `bar`, `msg` or `pout`, or from one of these to a `bar`; no barrier orders a `pkt`.
 ///
 /// # Errors
 ///
@@ -152,8 +154,8 @@ pub fn normalise<'a>(tables: &'a [u8], out: &mut [u8]) -> Result<usize, Refusal<
 /// Runs the events of a trace in an order, one byte for each event, from the tables of a text.
 ///
 /// `tables_out` then starts with the end tables in normal form and `answers_out` with the answer lines by rising
-/// event; the bytes after them are as they were. Orders that keep happens-before and have every listed pair in
-/// recorded order all write the same bytes.
+/// event, one for each `pkt`, `pout` and `addc`; the bytes after them are as they were. Orders that keep
+/// happens-before and have every listed pair in recorded order all write the same bytes.
 ///
 /// # Errors
 ///

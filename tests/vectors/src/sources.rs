@@ -19,11 +19,13 @@ pub fn program_faults(source: &str, cases: &[Case]) -> Vec<String> {
     faults
 }
 
-/// The same of `replay_test`, which names the three files of each set.
+/// The same of `replay_test`, which names each set and its three files, on one line or on several.
 pub fn replay_faults(source: &str, cases: &[Case]) -> Vec<String> {
-    let call = |set| format!("b\"{set}\", b\"{set}_trace\", b\"{set}_tables\", b\"{set}_orders\"");
-    let sets: Vec<String> = replay_sets(cases).map(call).collect();
-    let run: Vec<&str> = all_between(source, "    replay_files(", ");").collect();
+    let names = |set| ["", "_trace", "_tables", "_orders"].map(|end| format!("{set}{end}"));
+    let sets: Vec<[String; 4]> = replay_sets(cases).map(names).collect();
+    let strings =
+        |call: &str| -> Vec<String> { call.split('"').skip(1).step_by(2).map(str::to_owned).collect() };
+    let run: Vec<Vec<String>> = all_between(source, "    replay_files(", ");").map(strings).collect();
     if run == sets {
         return Vec::new();
     }
@@ -102,6 +104,17 @@ mod tests {
             ["PAIRS is 25, the cases are 26"]
         );
         assert_eq!(array_faults("", "PAIRS", 26), ["has no PAIRS, the cases are 26"]);
+    }
+
+    #[test]
+    fn sets_of_replays() {
+        let cases = cases("file a_trace\nfile a_tables\nfile a_orders\n");
+        let source = "    replay_files(b\"a\", b\"a_trace\", b\"a_tables\", b\"a_orders\");\n";
+        assert!(replay_faults(source, &cases).is_empty());
+        let laid_out = source.replace(", ", ",\n        ").replace(");", ",\n    );");
+        assert!(replay_faults(&laid_out, &cases).is_empty());
+        assert_eq!(replay_faults(&source.replace("a_tables", "a_trace"), &cases).len(), 1);
+        assert_eq!(replay_faults("", &cases).len(), 1);
     }
 
     #[test]

@@ -1,4 +1,3 @@
-pub mod Tabulated
 pub mod Field
 pub mod Digits
 pub mod ExactField

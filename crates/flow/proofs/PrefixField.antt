@@ -4,9 +4,10 @@ use mathlib.Core.Path.{_≡_, refl, sym, ap, ap₂, _∙_, subst}
 use mathlib.Core.Logic.{_↔_}
 use mathlib.Core.Bool.{Bool, true, false, _&&_, cond}
 use Prim.Native.Nat.{ℕ, _+_, _*_, _/_, _%_, _-_, _^_, _≤_, _<_, min}
+use native.Mathlib.Nat.{div-eq-of-lt, lt-of-lt-of-le, mul-assoc}
 use native.Mathlib.Omega.{arith}
 use lib.Dec.{eqb, leb, ltb}
-use lib.Pow.{pow-pos, pow-mono, pow-lt, pow-sub-lt, high-ones, high, shr-mod, shl-shr, split as pow-split}
+use lib.Pow.{pow-pos, pow-mono, pow-lt, pow-sub-lt, pow-add, high-ones, high, shr-mod, shl-shr, split as pow-split}
 use lib.Bits.{bitAnd, and-high, and-comm, and-zero-r}
 use borrow.Author.Tests.{eq-eqb, ne-eqb, eqb-true, leb-true, leb-false, ltb-true, ltb-false}
 use Rattle.flow.specs.Types.{Prefix}
@@ -128,6 +129,50 @@ prefix-field = along (masked-field 32) PrefixInRange (λ x. x < 2 ^ 32) maskedOf
     go : (p q : Prefix) → PrefixInRange p → PrefixInRange q → (b : Bool) → PrefixInRange (cond b p q)
     go p q h k true = h
     go p q h k false = k
+
+-- ---- what a mask is, bit by bit
+-- a bit that the length reaches
+bit-reached : (l i : ℕ) → 32 - l ≤ i → i < 32 → maskOf l / 2 ^ i % 2 ≡ 1
+unfolding maskOf
+bit-reached l i h k =
+    let s : ℕ = 32 - l in
+    let j : ℕ = 32 - i in
+    let e : 32 ≡ j + i = omega arith in
+    let a : 2 ^ s ≤ 2 ^ i = pow-mono {i = s} {j = i} h in
+    let b : 0 < 2 ^ s = pow-pos s in
+    let d : 2 ^ i ≤ 2 ^ 32 = pow-mono {i = i} {j = 32} (omega arith) in
+    let f : 2 ^ 32 - 2 ^ i ≡ (2 ^ j - 1) * 2 ^ i = ap (λ (n : ℕ). 2 ^ n - 2 ^ i) e ∙ high-ones j i in
+    let g : maskOf l ≡ (2 ^ j - 1) * 2 ^ i + (2 ^ i - 2 ^ s) = omega arith in
+    let u : j ≡ (31 - i) + 1 = omega arith in
+    let o : 2 ^ j ≡ 2 ^ (31 - i) * 2 = ap (λ (n : ℕ). 2 ^ n) u ∙ pow-add 2 (31 - i) 1 in
+    ap (λ q. q / 2 ^ i % 2) g
+    ∙ ap (λ q. q % 2) (high (2 ^ j - 1) i {lo = 2 ^ i - 2 ^ s} (omega arith))
+    ∙ omega (arith, pow-pos (31 - i))
+
+-- a bit past the length
+bit-past : (l i : ℕ) → i < 32 - l → maskOf l / 2 ^ i % 2 ≡ 0
+bit-past l i h =
+    let s : ℕ = 32 - l in
+    let q : ℕ = 2 ^ (32 - s) - 1 in
+    let t : ℕ = (s - i) - 1 in
+    let e : s ≡ (t + 1) + i = omega arith in
+    let f : 2 ^ s ≡ 2 ^ t * 2 * 2 ^ i = ap (λ (n : ℕ). 2 ^ n) e ∙ pow-add 2 (t + 1) i ∙ ap (λ (x : ℕ). x * 2 ^ i) (pow-add 2 t 1) in
+    let g : maskOf l ≡ q * 2 ^ t * 2 * 2 ^ i = mask-is l ∙ high-ones (32 - s) s ∙ ap (λ (x : ℕ). q * x) f ∙ sym (mul-assoc q (2 ^ t * 2) (2 ^ i)) ∙ ap (λ (x : ℕ). x * 2 ^ i) (sym (mul-assoc q (2 ^ t) 2)) in
+    ap (λ (x : ℕ). x / 2 ^ i % 2) g ∙ ap (λ (x : ℕ). x % 2) (shl-shr (q * 2 ^ t * 2) i) ∙ omega arith
+
+-- of the 32 bits of a mask as many are one, from the highest down, as the length says, and no others
+pub mask-bits : (l i : ℕ) → (maskOf l / 2 ^ i % 2 ≡ 1) ↔ ((32 - l ≤ i) × (i < 32))
+mask-bits l i = (
+  λ e. split (leb (32 - l) i)
+      (λ u. split (ltb i 32)
+      (λ v. (leb-true (32 - l) i u, ltb-true i 32 v))
+      (λ v. let z = bit-above (ltb-false i 32 v) in absurd (omega arith)))
+      (λ u. let z = bit-past l i (leb-false (32 - l) i u) in absurd (omega arith)),
+  λ h. bit-reached l i (h .0) (h .1),
+)
+  where
+    bit-above : 32 ≤ i → maskOf l / 2 ^ i % 2 ≡ 0
+    bit-above h = ap (λ (x : ℕ). x % 2) (div-eq-of-lt (lt-of-lt-of-le (mask-lt l) (pow-mono {i = 32} {j = i} h)))
 
 -- ---- what the masks stand for: the leading bits of an address
 same-block : (a b s : ℕ) → eqb (a * 2 ^ s) (b * 2 ^ s) ≡ eqb a b

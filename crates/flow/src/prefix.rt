@@ -1,7 +1,7 @@
 // An IPv4 prefix, compared by bit masks.
 use crate::ordering::Ordering;
 ghost use mathlib.Core.Path.{_≡_};
-ghost use Prim.Native.Nat.{min};
+ghost use Prim.Native.Nat.{_-_, min};
 ghost use Rattle.flow.specs.Matches.{maskOf, prefixFits, prefixOverlaps, prefixWithin, prefixClear};
 ghost use Rattle.flow.specs.Inner.{sameLeading, samePrefix};
 ghost use Rattle.flow.specs.Orders.{orderOf, thenBy};
@@ -11,48 +11,20 @@ pub struct Prefix {
     pub length: u8,
 }
 
-const MASKS: [u32; 33] = [
-    0x00000000,
-    0x80000000,
-    0xc0000000,
-    0xe0000000,
-    0xf0000000,
-    0xf8000000,
-    0xfc000000,
-    0xfe000000,
-    0xff000000,
-    0xff800000,
-    0xffc00000,
-    0xffe00000,
-    0xfff00000,
-    0xfff80000,
-    0xfffc0000,
-    0xfffe0000,
-    0xffff0000,
-    0xffff8000,
-    0xffffc000,
-    0xffffe000,
-    0xfffff000,
-    0xfffff800,
-    0xfffffc00,
-    0xfffffe00,
-    0xffffff00,
-    0xffffff80,
-    0xffffffc0,
-    0xffffffe0,
-    0xfffffff0,
-    0xfffffff8,
-    0xfffffffc,
-    0xfffffffe,
-    0xffffffff,
-];
+// How many bits of an address stand past a length; none past 32 or more.
+fn bits_past(length: u8) -> u8
+    ensures { λ r. ⌜ r ≡ 32 - length ⌝ }
+{
+    if length < 32 { 32 - length } else { 0 }
+}
 
-// The mask of a prefix length: as many ones from the top; a length over 32 counts as 32.
+// The mask of a prefix length, as many ones and then zeros: 2^32 less 2^(32 - length), which is 2^32 itself at length 0, so the
+// formula is worked out in 64 bits. A length over 32 counts as 32.
 pub fn mask(length: u8) -> u32
     ensures { λ r. ⌜ r ≡ maskOf length ⌝ }
 {
-    let n = length as usize;
-    if n < 33 { MASKS[n] } else { 0xffff_ffff }
+    let past = bits_past(length);
+    (0x1_0000_0000u64 - (1u64 << past)) as u32
 }
 
 fn shorter(a: u8, b: u8) -> u8

@@ -1,31 +1,30 @@
--- `prefix::mask`: the table's rule is a test at each of its 33 entries, which antt computes.
-use mathlib.Core.List.{List, [], _∷_}
-use mathlib.Core.Bool.{Bool}
-use Prim.Native.Nat.{ℕ, _-_, _^_}
-use mathlib.Core.Path.{_≡_, ap, sym}
+-- `prefix::mask`: in 64 bits neither the shift loses a bit nor is the difference negative, and the difference has 32 bits.
+use mathlib.Core.Path.{_≡_, ap, _∙_}
+use Prim.Native.Nat.{ℕ, _*_, _%_, _-_, _^_, _≤_, _<_}
 use native.Mathlib.Omega.{arith}
-use lib.Dec.{eqb, eqb→eq}
-use lib.ListN.{getD}
+use lib.Pow.{pow-pos, pow-mono, shl-exact}
 use Rattle.flow.specs.Matches.{maskOf}
-use Rattle.flow.proofs.Tabulated.{at}
 use borrow.Author.Needs.{needs}
 use Rattle.flow.proofs.prefix.mask.Statement.{statement}
 use Rattle.flow.proofs.prefix.mask.Tie as tie
 
--- the code's table
-masks : List ℕ
-masks = 0x00000000 ∷ 0x80000000 ∷ 0xc0000000 ∷ 0xe0000000 ∷ 0xf0000000 ∷ 0xf8000000 ∷ 0xfc000000 ∷ 0xfe000000 ∷ 0xff000000 ∷ 0xff800000 ∷ 0xffc00000 ∷ 0xffe00000 ∷ 0xfff00000 ∷ 0xfff80000 ∷ 0xfffc0000 ∷ 0xfffe0000 ∷ 0xffff0000 ∷ 0xffff8000 ∷ 0xffffc000 ∷ 0xffffe000 ∷ 0xfffff000 ∷ 0xfffff800 ∷ 0xfffffc00 ∷ 0xfffffe00 ∷ 0xffffff00 ∷ 0xffffff80 ∷ 0xffffffc0 ∷ 0xffffffe0 ∷ 0xfffffff0 ∷ 0xfffffff8 ∷ 0xfffffffc ∷ 0xfffffffe ∷ 0xffffffff ∷ []
+-- the shifted one, which is what the formula takes from 2 ^ 32
+shifted : (n p : ℕ) → p ≡ 32 - n → (1 * 2 ^ p % 2 ^ 64 ≡ 2 ^ (32 - n)) × (2 ^ (32 - n) ≤ 2 ^ 32) × (0 < 2 ^ (32 - n))
+shifted n p e = (
+  shl-exact {a = 1} 1 p 64 (omega arith) (omega arith) ∙ omega arith ∙ ap (λ (k : ℕ). 2 ^ k) e,
+  pow-mono {i = 32 - n} {j = 32} (omega arith),
+  pow-pos (32 - n),
+)
 
-right : ℕ → ℕ → Bool
-right k x = eqb x (maskOf k)
+sub-result : tie.Need-sub-result
+sub-result c = omega (arith, shifted _ _ (c .bits-past .ensures))
+
+cast-result-2 : tie.Need-cast-result-2
+cast-result-2 c = let h = shifted _ _ (c .bits-past .ensures) in record { fits = omega arith }
 
 returns : tie.Need-returns
-unfolding masks right maskOf
-returns c = eqb→eq (getD masks (c .before .args .length) 0) (maskOf (c .before .args .length)) (at right masks tt (c .before .args .length) (search needs))
-
-returns-2 : tie.Need-returns-2
 unfolding maskOf
-returns-2 c = let e : 32 - c .before .args .length ≡ 0 = omega arith in sym (ap (λ (k : ℕ). 2 ^ 32 - 2 ^ k) e)
+returns c = omega (arith, shifted _ _ (c .bits-past .ensures))
 
 pub mask-spec : {M : Type 1} → statement M
-mask-spec = tie.close (tie.spec (λ c. search needs) (λ c. search needs) returns returns-2)
+mask-spec = tie.close (tie.spec (λ c κs. search needs) (λ c. search needs) (λ c. search needs) sub-result cast-result-2 returns)

@@ -1,5 +1,5 @@
-// Vectors for matches and table order: each pair of the matches below, each packet against each match, and document 01's
-// examples of addresses. What must come out is in the file `stdout`.
+// Vectors for matches and table order: document 01's examples of addresses, the masks of all lengths, each pair of the
+// matches below, and each packet against each match. What must come out is in the file `stdout`.
 use flow::Action;
 use flow::Exact;
 use flow::Key;
@@ -141,6 +141,20 @@ fn address(name: &[u8], value: u32, length: u8) {
     say_if(p.is_clear(), b" passes\n", b" has a bit past its length\n");
 }
 
+// The mask of a length, as 8 hexadecimal digits.
+fn say_mask(length: u8) {
+    let mut digits: [u8; 8] = [0; 8];
+    text_numbers::put_hex(&mut digits, 0, flow::prefix::mask(length));
+    say(&digits);
+    end_line();
+}
+
+fn masks() {
+    for length in 0..33 {
+        say_mask(length);
+    }
+}
+
 // Two keys by priority and match.
 fn keys(p: u16, i: usize, q: u16, j: usize)
     requires { ⌜ (i < 26) × (j < 26) ⌝ }
@@ -175,6 +189,7 @@ fn main() {
     address(b"80000000/1", 0x80000000, 1);
     address(b"40000000/1", 0x40000000, 1);
     address(b"ffffffff/32", 0xffffffff, 32);
+    masks();
     rows();
     sent(1, 0x0a000003, 0x0a010003, 6, 65535, 80);
     sent(0, 0x00000000, 0x00000000, 0, 0, 0);

@@ -1,6 +1,6 @@
 //! The sentences of document 01, one by one.
 
-use reference::flow::Packet;
+use reference::flow::{Packet, Prefix};
 use reference::replay::{check_order, recorded_order};
 use reference::table::{Origin, TableOperation};
 use reference::trace::Operation;
@@ -173,6 +173,16 @@ fn counts_on_a_page() {
     assert!(page.starts_with("  0   1 15 addc addc 65535 65535  "));
     assert!(page.ends_with(&pinned(&["254 255 15 addc addc 65535 65535"], [32_640, 0, 0, 32_640])));
     assert!(page.lines().all(|line| line.len() == 60));
+}
+
+/// As many ones as the length, then zeros.
+#[test]
+fn masks_of_all_lengths() {
+    for length in 0..=32 {
+        let bits = "1".repeat(length) + &"0".repeat(32 - length);
+        let prefix = Prefix { value: 0, len: u8::try_from(length).unwrap() };
+        assert_eq!(Ok(prefix.mask()), u32::from_str_radix(&bits, 2));
+    }
 }
 
 #[test]

@@ -1,11 +1,14 @@
 //! What `flow_test` prints. Its case file has, in the order of the program:
 //!
 //! - `address VALUE/LENGTH`;
+//! - `mask LENGTH`;
 //! - `match NUMBER ITEMS`, numbered from 0;
 //! - `packet ITEMS`;
 //! - `keys PRIORITY MATCH, PRIORITY MATCH`, two keys by the numbers of their matches;
-//! - `actions ACTION, ACTION`.
+//! - `actions ACTION, ACTION`;
+//! - `for i = A..B: STATEMENT ; STATEMENT`, statements with a counter (see [`repeated`]).
 
+use crate::counting::repeated;
 use crate::items::{action, matching, number, packet, prefix};
 use crate::notation::{first_word, for_each_statement};
 use reference::flow::{Action, Key, Match, Packet, Prefix};
@@ -15,6 +18,8 @@ use std::cmp::Ordering;
 #[derive(Default)]
 pub struct Vectors {
     addresses: Vec<Prefix>,
+    /// Prefixes of these lengths, whose masks are printed.
+    masks: Vec<Prefix>,
     /// The matches, each of which is held against each.
     pub matches: Vec<Match>,
     packets: Vec<Packet>,
@@ -34,7 +39,9 @@ impl Vectors {
         let unread = || format!("`{statement}` can't be read");
         let (word, rest) = first_word(statement);
         match word {
+            "for" => return repeated(rest)?.iter().try_for_each(|statement| self.statement(statement)),
             "address" => self.addresses.push(prefix(rest).ok_or_else(unread)?),
+            "mask" => self.masks.push(Prefix { value: 0, len: number(rest).ok_or_else(unread)? }),
             "match" => {
                 let (place, items) = first_word(rest);
                 if number(place) != Some(self.matches.len()) {
@@ -62,6 +69,9 @@ impl Vectors {
         for prefix in &self.addresses {
             let verdict = if prefix.is_clear() { "passes" } else { "has a bit past its length" };
             out += &format!("{prefix} {verdict}\n");
+        }
+        for prefix in &self.masks {
+            out += &format!("{:08x}\n", prefix.mask());
         }
         for m in &self.matches {
             out.extend(self.matches.iter().map(|n| relations(m, n)));

@@ -1,5 +1,5 @@
 -- A prefix is a field: its masks are nested, so of two prefixes that overlap the longer lies within the other. And what the
--- masks stand for: the leading bits of an address. Assumes nothing.
+-- masks are, bit by bit, and what they stand for: the leading bits of an address. Assumes nothing.
 use mathlib.Core.Path.{_≡_, refl, sym, ap, ap₂, _∙_, subst}
 use mathlib.Core.Logic.{_↔_}
 use mathlib.Core.Bool.{Bool, true, false, _&&_, cond}
@@ -8,7 +8,7 @@ use native.Mathlib.Nat.{div-eq-of-lt, lt-of-lt-of-le, mul-assoc}
 use native.Mathlib.Omega.{arith}
 use lib.Dec.{eqb, leb, ltb}
 use lib.Pow.{pow-pos, pow-mono, pow-lt, pow-sub-lt, pow-add, high-ones, high, shr-mod, shl-shr, split as pow-split}
-use lib.Bits.{bitAnd, and-high, and-comm, and-zero-r}
+use lib.Bits.{bitAnd, and-high, and-comm}
 use borrow.Author.Tests.{eq-eqb, ne-eqb, eqb-true, leb-true, leb-false, ltb-true, ltb-false}
 use Rattle.flow.specs.Types.{Prefix}
 use Rattle.flow.specs.Matches.{maskedFits, maskOf, maskedOf, prefixFits, prefixOverlaps, prefixWithin, prefixClear, PrefixInRange}
@@ -22,7 +22,7 @@ mask-is : (l : ℕ) → maskOf l ≡ 2 ^ ((32 - (32 - l)) + (32 - l)) - 2 ^ (32 
 unfolding maskOf
 mask-is l = let e : 32 ≡ (32 - (32 - l)) + (32 - l) = omega arith in ap (λ (n : ℕ). 2 ^ n - 2 ^ (32 - l)) e
 
-pub leaves : (a l : ℕ) → a < 2 ^ 32 → bitAnd a (maskOf l) ≡ a / 2 ^ (32 - l) * 2 ^ (32 - l)
+leaves : (a l : ℕ) → a < 2 ^ 32 → bitAnd a (maskOf l) ≡ a / 2 ^ (32 - l) * 2 ^ (32 - l)
 leaves a l h =
     let s : ℕ = 32 - l in
     let e : 32 ≡ (32 - s) + s = omega arith in
@@ -34,7 +34,7 @@ unfolding maskOf
 mask-lt l = pow-sub-lt 32 (pow-pos (32 - l))
 
 -- a shorter prefix's mask is a part of a longer one's
-pub nested : (k l : ℕ) → 32 - k ≤ 32 - l → bitAnd (maskOf k) (maskOf l) ≡ maskOf l
+nested : (k l : ℕ) → 32 - k ≤ 32 - l → bitAnd (maskOf k) (maskOf l) ≡ maskOf l
 unfolding maskOf
 nested k l h =
     let s : ℕ = 32 - l in
@@ -66,19 +66,6 @@ not-nested : (k l : ℕ) → k < l → k < 32 → eqb (bitAnd (maskOf k) (maskOf
 not-nested k l h i = ne-eqb _ _ (λ g. masks-differ k l h i (sym (shared-mask k l (omega arith)) ∙ g))
 
 -- ---- overlap and within, by the bits of one length
-pub same-equal : (v w n : ℕ) → v ≡ w → sameLeading v w n ≡ true
-same-equal v w n e = eq-eqb _ _ (ap (λ a. bitAnd a (maskOf n)) e)
-
-pub same-none : (v w n : ℕ) → n ≡ 0 → sameLeading v w n ≡ true
-unfolding maskOf
-same-none v w n e = rw e (eq-eqb (bitAnd v 0) (bitAnd w 0) (and-zero-r v ∙ sym (and-zero-r w)))
-
-pub same-all : (v w n : ℕ) → v < 2 ^ 32 → w < 2 ^ 32 → 32 ≤ n → (v ≡ w → ⊥) → sameLeading v w n ≡ false
-same-all v w n h k i d = ne-eqb _ _ (λ e. d (sym (whole v h) ∙ e ∙ whole w k))
-  where
-    whole : (a : ℕ) → a < 2 ^ 32 → bitAnd a (maskOf n) ≡ a
-    whole a l = let z : 32 - n ≡ 0 = omega arith in leaves a n l ∙ rw z (omega arith)
-
 both-masks : (k l : ℕ) → bitAnd (maskOf k) (maskOf l) ≡ maskOf (min k l)
 both-masks k l = split (leb l k)
     (λ e. let i = leb-true l k e in let m : l ≡ min k l = omega arith in nested k l (omega arith) ∙ ap maskOf m)

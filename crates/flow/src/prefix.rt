@@ -33,19 +33,10 @@ fn shorter(a: u8, b: u8) -> u8
     if a < b { a } else { b }
 }
 
-// Two addresses have the same first bits, as many as the length says. Equal addresses, no bits and all 32 need no mask.
+// Two addresses have the same first bits, as many as the length says.
 fn same_leading(a: u32, b: u32, length: u8) -> bool
     ensures { λ r. ⌜ r ≡ sameLeading a b length ⌝ }
 {
-    if a == b {
-        return true;
-    }
-    if length == 0 {
-        return true;
-    }
-    if length >= 32 {
-        return false;
-    }
     let m = mask(length);
     a & m == b & m
 }

@@ -33,22 +33,26 @@ mask-lt : (l : ℕ) → maskOf l < 2 ^ 32
 unfolding maskOf
 mask-lt l = pow-sub-lt 32 (pow-pos (32 - l))
 
+mask-ones : (l : ℕ) → maskOf l ≡ (2 ^ (32 - (32 - l)) - 1) * 2 ^ (32 - l)
+mask-ones l = mask-is l ∙ high-ones (32 - (32 - l)) (32 - l)
+
+-- above its low i bits a mask is all ones, where the length reaches down to bit i
+mask-high : (l i : ℕ) → 32 - l ≤ i → i ≤ 32 → maskOf l / 2 ^ i ≡ 2 ^ (32 - i) - 1
+unfolding maskOf
+mask-high l i h k =
+    let s : ℕ = 32 - l in
+    let j : ℕ = 32 - i in
+    let e : 32 ≡ j + i = omega arith in
+    let a : 2 ^ s ≤ 2 ^ i = pow-mono {i = s} {j = i} h in
+    let b : 0 < 2 ^ s = pow-pos s in
+    let d : 2 ^ i ≤ 2 ^ 32 = pow-mono {i = i} {j = 32} k in
+    let f : 2 ^ 32 - 2 ^ i ≡ (2 ^ j - 1) * 2 ^ i = ap (λ (n : ℕ). 2 ^ n - 2 ^ i) e ∙ high-ones j i in
+    let g : maskOf l ≡ (2 ^ j - 1) * 2 ^ i + (2 ^ i - 2 ^ s) = omega arith in
+    ap (λ (q : ℕ). q / 2 ^ i) g ∙ high (2 ^ j - 1) i {lo = 2 ^ i - 2 ^ s} (omega arith)
+
 -- a shorter prefix's mask is a part of a longer one's
 nested : (k l : ℕ) → 32 - k ≤ 32 - l → bitAnd (maskOf k) (maskOf l) ≡ maskOf l
-unfolding maskOf
-nested k l h =
-    let s : ℕ = 32 - l in
-    let t : ℕ = 32 - k in
-    let j : ℕ = 32 - s in
-    let a : 2 ^ t ≤ 2 ^ s = pow-mono {i = t} {j = s} (omega arith) in
-    let b : 0 < 2 ^ t = pow-pos t in
-    let d : 2 ^ s ≤ 2 ^ 32 = pow-mono {i = s} {j = 32} (omega arith) in
-    let f : 2 ^ 32 - 2 ^ s ≡ (2 ^ j - 1) * 2 ^ s = mask-is l ∙ high-ones j s in
-    let g : maskOf k ≡ (2 ^ j - 1) * 2 ^ s + (2 ^ s - 2 ^ t) = omega arith in
-    leaves (maskOf k) l (mask-lt k)
-    ∙ ap (λ q. q / 2 ^ s * 2 ^ s) g
-    ∙ ap (λ q. q * 2 ^ s) (high (2 ^ j - 1) s {lo = 2 ^ s - 2 ^ t} (omega arith))
-    ∙ sym f
+nested k l h = leaves (maskOf k) l (mask-lt k) ∙ ap (λ (q : ℕ). q * 2 ^ (32 - l)) (mask-high k (32 - l) h (omega arith)) ∙ sym (mask-ones l)
 
 -- of two masks the shorter length's is the one that they share
 shared-mask : (k l : ℕ) → 32 - l ≤ 32 - k → bitAnd (maskOf k) (maskOf l) ≡ maskOf k
@@ -120,21 +124,10 @@ prefix-field = along (masked-field 32) PrefixInRange (λ x. x < 2 ^ 32) maskedOf
 -- ---- what a mask is, bit by bit
 -- a bit that the length reaches
 bit-reached : (l i : ℕ) → 32 - l ≤ i → i < 32 → maskOf l / 2 ^ i % 2 ≡ 1
-unfolding maskOf
 bit-reached l i h k =
-    let s : ℕ = 32 - l in
-    let j : ℕ = 32 - i in
-    let e : 32 ≡ j + i = omega arith in
-    let a : 2 ^ s ≤ 2 ^ i = pow-mono {i = s} {j = i} h in
-    let b : 0 < 2 ^ s = pow-pos s in
-    let d : 2 ^ i ≤ 2 ^ 32 = pow-mono {i = i} {j = 32} (omega arith) in
-    let f : 2 ^ 32 - 2 ^ i ≡ (2 ^ j - 1) * 2 ^ i = ap (λ (n : ℕ). 2 ^ n - 2 ^ i) e ∙ high-ones j i in
-    let g : maskOf l ≡ (2 ^ j - 1) * 2 ^ i + (2 ^ i - 2 ^ s) = omega arith in
-    let u : j ≡ (31 - i) + 1 = omega arith in
-    let o : 2 ^ j ≡ 2 ^ (31 - i) * 2 = ap (λ (n : ℕ). 2 ^ n) u ∙ pow-add 2 (31 - i) 1 in
-    ap (λ q. q / 2 ^ i % 2) g
-    ∙ ap (λ q. q % 2) (high (2 ^ j - 1) i {lo = 2 ^ i - 2 ^ s} (omega arith))
-    ∙ omega (arith, pow-pos (31 - i))
+    let u : 32 - i ≡ (31 - i) + 1 = omega arith in
+    let o : 2 ^ (32 - i) ≡ 2 ^ (31 - i) * 2 = ap (λ (n : ℕ). 2 ^ n) u ∙ pow-add 2 (31 - i) 1 in
+    ap (λ (q : ℕ). q % 2) (mask-high l i h (omega arith)) ∙ omega (arith, pow-pos (31 - i))
 
 -- a bit past the length
 bit-past : (l i : ℕ) → i < 32 - l → maskOf l / 2 ^ i % 2 ≡ 0
@@ -144,7 +137,7 @@ bit-past l i h =
     let t : ℕ = (s - i) - 1 in
     let e : s ≡ (t + 1) + i = omega arith in
     let f : 2 ^ s ≡ 2 ^ t * 2 * 2 ^ i = ap (λ (n : ℕ). 2 ^ n) e ∙ pow-add 2 (t + 1) i ∙ ap (λ (x : ℕ). x * 2 ^ i) (pow-add 2 t 1) in
-    let g : maskOf l ≡ q * 2 ^ t * 2 * 2 ^ i = mask-is l ∙ high-ones (32 - s) s ∙ ap (λ (x : ℕ). q * x) f ∙ sym (mul-assoc q (2 ^ t * 2) (2 ^ i)) ∙ ap (λ (x : ℕ). x * 2 ^ i) (sym (mul-assoc q (2 ^ t) 2)) in
+    let g : maskOf l ≡ q * 2 ^ t * 2 * 2 ^ i = mask-ones l ∙ ap (λ (x : ℕ). q * x) f ∙ sym (mul-assoc q (2 ^ t * 2) (2 ^ i)) ∙ ap (λ (x : ℕ). x * 2 ^ i) (sym (mul-assoc q (2 ^ t) 2)) in
     ap (λ (x : ℕ). x / 2 ^ i % 2) g ∙ ap (λ (x : ℕ). x % 2) (shl-shr (q * 2 ^ t * 2) i) ∙ omega arith
 
 -- of the 32 bits of a mask as many are one, from the highest down, as the length says, and no others

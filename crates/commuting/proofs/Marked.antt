@@ -17,6 +17,7 @@ use Rattle.commuting.proofs.Theorems.{commutes-iff}
 A-in-range : MatchInRange A
 A-in-range = record {
   port = tt;
+  vlan = tt;
   src = record { value = lit< tt; length = lit≤ tt; clear = prefix-clear-means (A .src) (lit< tt) .1 refl };
   dst = record { value = lit< tt; length = lit≤ tt; clear = prefix-clear-means (A .dst) (lit< tt) .1 refl };
   proto = tt;
@@ -27,6 +28,7 @@ A-in-range = record {
 B-in-range : MatchInRange B
 B-in-range = record {
   port = tt;
+  vlan = tt;
   src = A-in-range .src;
   dst = record { value = lit< tt; length = lit≤ tt; clear = prefix-clear-means (B .dst) (lit< tt) .1 refl };
   proto = tt;
@@ -35,7 +37,7 @@ B-in-range = record {
 }
 
 D-in-range : MatchInRange D
-D-in-range = record { port = tt; src = A-in-range .src; dst = A-in-range .src; proto = tt; sport = tt; dport = lit< tt }
+D-in-range = record { port = tt; vlan = tt; src = A-in-range .src; dst = A-in-range .src; proto = tt; sport = tt; dport = lit< tt }
 
 -- how they lie to one another
 A-over-A : overlaps A A ≡ true

@@ -6,13 +6,13 @@ use Rattle.commuting.specs.Commuting.{Commute, at}
 
 -- A: dst 0a000000/8; B: dst 0a010000/16; D: dport 80; else any
 abbrev pub A : Match
-A = record { port = Exact.Any; src = record { value = 0; length = 0 }; dst = record { value = 0x0a000000; length = 8 }; proto = Exact.Any; sport = Exact.Any; dport = Exact.Any }
+A = record { port = Exact.Any; vlan = Exact.Any; src = record { value = 0; length = 0 }; dst = record { value = 0x0a000000; length = 8 }; proto = Exact.Any; sport = Exact.Any; dport = Exact.Any }
 
 abbrev pub B : Match
-B = record { port = Exact.Any; src = record { value = 0; length = 0 }; dst = record { value = 0x0a010000; length = 16 }; proto = Exact.Any; sport = Exact.Any; dport = Exact.Any }
+B = record { port = Exact.Any; vlan = Exact.Any; src = record { value = 0; length = 0 }; dst = record { value = 0x0a010000; length = 16 }; proto = Exact.Any; sport = Exact.Any; dport = Exact.Any }
 
 abbrev pub D : Match
-D = record { port = Exact.Any; src = record { value = 0; length = 0 }; dst = record { value = 0; length = 0 }; proto = Exact.Any; sport = Exact.Any; dport = Exact.Is 80 }
+D = record { port = Exact.Any; vlan = Exact.Any; src = record { value = 0; length = 0 }; dst = record { value = 0; length = 0 }; proto = Exact.Any; sport = Exact.Any; dport = Exact.Is 80 }
 
 -- the marked cases, in document 01's order; what it leaves open, priorities n and m, actions a and b and the packet's other fields, is
 -- any

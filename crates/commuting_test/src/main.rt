@@ -121,6 +121,7 @@ const PAIRS: [u32; 100] = [
 fn to(value: u32, length: u8, dport: Exact) -> Match {
     Match {
         port: Exact::Any,
+        vlan: Exact::Any,
         src: Prefix {
             value: 0,
             length: 0,
@@ -147,6 +148,7 @@ fn packet(m: u8) -> Packet {
     let dport: u16 = if m == 0 { 81 } else { 80 };
     Packet {
         port: 1,
+        vlan: 1,
         src: 0,
         dst,
         proto: 6,

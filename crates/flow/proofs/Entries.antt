@@ -22,20 +22,22 @@ pub rank-injective : (m n : Match) → rank m ≡ rank n → m ≡ n
 unfolding rank
 rank-injective m n e =
     let p₀ : exactRank (m .port) ≡ exactRank (n .port) = cc in
-    let p₁ : m .src .value ≡ n .src .value = cc in
-    let p₂ : m .src .length ≡ n .src .length = cc in
-    let p₃ : m .dst .value ≡ n .dst .value = cc in
-    let p₄ : m .dst .length ≡ n .dst .length = cc in
-    let p₅ : exactRank (m .proto) ≡ exactRank (n .proto) = cc in
-    let p₆ : exactRank (m .sport) ≡ exactRank (n .sport) = cc in
-    let p₇ : exactRank (m .dport) ≡ exactRank (n .dport) = cc in
+    let p₁ : exactRank (m .vlan) ≡ exactRank (n .vlan) = cc in
+    let p₂ : m .src .value ≡ n .src .value = cc in
+    let p₃ : m .src .length ≡ n .src .length = cc in
+    let p₄ : m .dst .value ≡ n .dst .value = cc in
+    let p₅ : m .dst .length ≡ n .dst .length = cc in
+    let p₆ : exactRank (m .proto) ≡ exactRank (n .proto) = cc in
+    let p₇ : exactRank (m .sport) ≡ exactRank (n .sport) = cc in
+    let p₈ : exactRank (m .dport) ≡ exactRank (n .dport) = cc in
     λ i. record {
       port = exact-apart (m .port) (n .port) p₀ i;
-      src = record { value = p₁ i; length = p₂ i };
-      dst = record { value = p₃ i; length = p₄ i };
-      proto = exact-apart (m .proto) (n .proto) p₅ i;
-      sport = exact-apart (m .sport) (n .sport) p₆ i;
-      dport = exact-apart (m .dport) (n .dport) p₇ i;
+      vlan = exact-apart (m .vlan) (n .vlan) p₁ i;
+      src = record { value = p₂ i; length = p₃ i };
+      dst = record { value = p₄ i; length = p₅ i };
+      proto = exact-apart (m .proto) (n .proto) p₆ i;
+      sport = exact-apart (m .sport) (n .sport) p₇ i;
+      dport = exact-apart (m .dport) (n .dport) p₈ i;
     }
 
 -- table order: two keys that compare equal are equal; opposite when swapped; transitive

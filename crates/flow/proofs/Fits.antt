@@ -1,4 +1,4 @@
--- A packet in range fits a match in range exactly if it does in all six fields: `*` or the same number, the same leading bits.
+-- A packet in range fits a match in range exactly if it does in all seven fields: `*` or the same number, the same leading bits.
 -- Assumes nothing.
 use mathlib.Core.Path.{_≡_, refl, sym, _∙_}
 use mathlib.Core.Logic.{_↔_}
@@ -32,6 +32,9 @@ module _ (m : Match) (p : Packet) (h : MatchInRange m) (k : PacketInRange p) whe
   port : (exactFits (m .port) (p .port) ≡ true) ↔ Admits (m .port) (p .port)
   port = exact-fits-iff (m .port) (p .port)
 
+  vlan : (exactFits (m .vlan) (p .vlan) ≡ true) ↔ Admits (m .vlan) (p .vlan)
+  vlan = exact-fits-iff (m .vlan) (p .vlan)
+
   src : (prefixFits (m .src) (p .src) ≡ true) ↔ HasPrefix (m .src) (p .src)
   src = prefix-fits-iff (m .src) (p .src) (h .src .value) (k .src)
 
@@ -52,16 +55,18 @@ module _ (m : Match) (p : Packet) (h : MatchInRange m) (k : PacketInRange p) whe
   fits-iff = (
     λ e₀.
         let e₁ = and-right (exactFits (m .port) (p .port)) _ e₀ in
-        let e₂ = and-right (prefixFits (m .src) (p .src)) _ e₁ in
-        let e₃ = and-right (prefixFits (m .dst) (p .dst)) _ e₂ in
-        let e₄ = and-right (exactFits (m .proto) (p .proto)) _ e₃ in
+        let e₂ = and-right (exactFits (m .vlan) (p .vlan)) _ e₁ in
+        let e₃ = and-right (prefixFits (m .src) (p .src)) _ e₂ in
+        let e₄ = and-right (prefixFits (m .dst) (p .dst)) _ e₃ in
+        let e₅ = and-right (exactFits (m .proto) (p .proto)) _ e₄ in
         record {
           port = port .0 (and-left (exactFits (m .port) (p .port)) _ e₀);
-          src = src .0 (and-left (prefixFits (m .src) (p .src)) _ e₁);
-          dst = dst .0 (and-left (prefixFits (m .dst) (p .dst)) _ e₂);
-          proto = proto .0 (and-left (exactFits (m .proto) (p .proto)) _ e₃);
-          sport = sport .0 (and-left (exactFits (m .sport) (p .sport)) _ e₄);
-          dport = dport .0 (and-right (exactFits (m .sport) (p .sport)) _ e₄);
+          vlan = vlan .0 (and-left (exactFits (m .vlan) (p .vlan)) _ e₁);
+          src = src .0 (and-left (prefixFits (m .src) (p .src)) _ e₂);
+          dst = dst .0 (and-left (prefixFits (m .dst) (p .dst)) _ e₃);
+          proto = proto .0 (and-left (exactFits (m .proto) (p .proto)) _ e₄);
+          sport = sport .0 (and-left (exactFits (m .sport) (p .sport)) _ e₅);
+          dport = dport .0 (and-right (exactFits (m .sport) (p .sport)) _ e₅);
         },
-    λ f. and-intro (port .1 (f .port)) (and-intro (src .1 (f .src)) (and-intro (dst .1 (f .dst)) (and-intro (proto .1 (f .proto)) (and-intro (sport .1 (f .sport)) (dport .1 (f .dport)))))),
+    λ f. and-intro (port .1 (f .port)) (and-intro (vlan .1 (f .vlan)) (and-intro (src .1 (f .src)) (and-intro (dst .1 (f .dst)) (and-intro (proto .1 (f .proto)) (and-intro (sport .1 (f .sport)) (dport .1 (f .dport))))))),
   )

@@ -17,20 +17,22 @@ leadingWithin p q = leb (q .length) (p .length) && eqb (p .value / 2 ^ (32 - q .
 abbrev overlapsByBits : Match → Match → Bool
 overlapsByBits m n =
     exactOverlaps (m .port) (n .port)
+    && (exactOverlaps (m .vlan) (n .vlan)
     && (leadingOverlaps (m .src) (n .src)
     && (leadingOverlaps (m .dst) (n .dst)
     && (exactOverlaps (m .proto) (n .proto)
     && (exactOverlaps (m .sport) (n .sport)
-    && exactOverlaps (m .dport) (n .dport)))))
+    && exactOverlaps (m .dport) (n .dport))))))
 
 abbrev withinByBits : Match → Match → Bool
 withinByBits m n =
     exactWithin (m .port) (n .port)
+    && (exactWithin (m .vlan) (n .vlan)
     && (leadingWithin (m .src) (n .src)
     && (leadingWithin (m .dst) (n .dst)
     && (exactWithin (m .proto) (n .proto)
     && (exactWithin (m .sport) (n .sport)
-    && exactWithin (m .dport) (n .dport)))))
+    && exactWithin (m .dport) (n .dport))))))
 
 module _ (m n : Match) (h : MatchInRange m) (k : MatchInRange n) where
   pub overlaps-by-bits : overlaps m n ≡ overlapsByBits m n
@@ -44,4 +46,4 @@ module _ (m n : Match) (h : MatchInRange m) (k : MatchInRange n) where
 -- a packet to another destination doesn't fit
 pub other-destination : (m : Match) (p : Packet) → prefixFits (m .dst) (p .dst) ≡ false → fits m p ≡ false
 unfolding fits
-other-destination m p e = and-false-right (exactFits (m .port) (p .port)) (and-false-right (prefixFits (m .src) (p .src)) (rw e refl))
+other-destination m p e = and-false-right (exactFits (m .port) (p .port)) (and-false-right (exactFits (m .vlan) (p .vlan)) (and-false-right (prefixFits (m .src) (p .src)) (rw e refl)))

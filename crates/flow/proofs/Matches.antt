@@ -1,4 +1,4 @@
--- The match is a field of six fields side by side, and with that what document 01 says of overlap and within. A seventh field is
+-- The match is a field of seven fields side by side, and with that what document 01 says of overlap and within. An eighth field is
 -- one more `beside`. Assumes nothing.
 use mathlib.Core.Path.{_≡_, refl, sym, _∙_}
 use mathlib.Core.Logic.{_↔_}
@@ -16,19 +16,21 @@ pub match-field : IsField MatchInRange PacketInRange fits within overlaps meet p
 unfolding fits within overlaps meet packetOf
 match-field =
     let port = exact-field 65536 (lit≤ tt) in
+    let vlan = exact-field 4096 (lit≤ tt) in
     let proto = exact-field 256 (lit≤ tt) in
-    let fields = beside port (beside prefix-field (beside prefix-field (beside proto (beside port port)))) in
+    let fields = beside port (beside vlan (beside prefix-field (beside prefix-field (beside proto (beside port port))))) in
     along fields MatchInRange PacketInRange
-    (λ (m : Match). (m .port, (m .src, (m .dst, (m .proto, (m .sport, m .dport))))))
-    (λ (p : Packet). (p .port, (p .src, (p .dst, (p .proto, (p .sport, p .dport))))))
-    (λ x. record { port = x .0; src = x .1 .0; dst = x .1 .1 .0; proto = x .1 .1 .1 .0; sport = x .1 .1 .1 .1 .0; dport = x .1 .1 .1 .1 .1 })
+    (λ (m : Match). (m .port, (m .vlan, (m .src, (m .dst, (m .proto, (m .sport, m .dport)))))))
+    (λ (p : Packet). (p .port, (p .vlan, (p .src, (p .dst, (p .proto, (p .sport, p .dport)))))))
+    (λ x. record { port = x .0; vlan = x .1 .0; src = x .1 .1 .0; dst = x .1 .1 .1 .0; proto = x .1 .1 .1 .1 .0; sport = x .1 .1 .1 .1 .1 .0; dport = x .1 .1 .1 .1 .1 .1 })
     (λ x. refl)
-    (λ m h. (h .port, (h .src, (h .dst, (h .proto, (h .sport, h .dport))))))
-    (λ x h. record { port = h .0; src = h .1 .0; dst = h .1 .1 .0; proto = h .1 .1 .1 .0; sport = h .1 .1 .1 .1 .0; dport = h .1 .1 .1 .1 .1 })
+    (λ m h. (h .port, (h .vlan, (h .src, (h .dst, (h .proto, (h .sport, h .dport)))))))
+    (λ x h. record { port = h .0; vlan = h .1 .0; src = h .1 .1 .0; dst = h .1 .1 .1 .0; proto = h .1 .1 .1 .1 .0; sport = h .1 .1 .1 .1 .1 .0; dport = h .1 .1 .1 .1 .1 .1 })
     meet
     (λ a b h x. refl)
     (λ m n h k. record {
       port = port .meet-ok (m .port) (n .port) (h .port) (k .port);
+      vlan = vlan .meet-ok (m .vlan) (n .vlan) (h .vlan) (k .vlan);
       src = prefix-field .meet-ok (m .src) (n .src) (h .src) (k .src);
       dst = prefix-field .meet-ok (m .dst) (n .dst) (h .dst) (k .dst);
       proto = proto .meet-ok (m .proto) (n .proto) (h .proto) (k .proto);

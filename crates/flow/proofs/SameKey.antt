@@ -57,39 +57,45 @@ same-match-iff m n = (forth, back)
     b₀ = sameExact (m .port) (n .port)
 
     b₁ : Bool
-    b₁ = samePrefix (m .src) (n .src)
+    b₁ = sameExact (m .vlan) (n .vlan)
 
     b₂ : Bool
-    b₂ = samePrefix (m .dst) (n .dst)
+    b₂ = samePrefix (m .src) (n .src)
 
     b₃ : Bool
-    b₃ = sameExact (m .proto) (n .proto)
+    b₃ = samePrefix (m .dst) (n .dst)
 
     b₄ : Bool
-    b₄ = sameExact (m .sport) (n .sport)
+    b₄ = sameExact (m .proto) (n .proto)
 
     b₅ : Bool
-    b₅ = sameExact (m .dport) (n .dport)
+    b₅ = sameExact (m .sport) (n .sport)
 
-    forth : (b₀ && (b₁ && (b₂ && (b₃ && (b₄ && b₅))))) ≡ true → m ≡ n
+    b₆ : Bool
+    b₆ = sameExact (m .dport) (n .dport)
+
+    forth : (b₀ && (b₁ && (b₂ && (b₃ && (b₄ && (b₅ && b₆)))))) ≡ true → m ≡ n
     forth e₀ =
-        let e₁ = and-right b₀ (b₁ && (b₂ && (b₃ && (b₄ && b₅)))) e₀ in
-        let e₂ = and-right b₁ (b₂ && (b₃ && (b₄ && b₅))) e₁ in
-        let e₃ = and-right b₂ (b₃ && (b₄ && b₅)) e₂ in
-        let e₄ = and-right b₃ (b₄ && b₅) e₃ in
-        let q₀ = same-exact-iff (m .port) (n .port) .0 (and-left b₀ (b₁ && (b₂ && (b₃ && (b₄ && b₅)))) e₀) in
-        let q₁ = same-prefix-iff (m .src) (n .src) .0 (and-left b₁ (b₂ && (b₃ && (b₄ && b₅))) e₁) in
-        let q₂ = same-prefix-iff (m .dst) (n .dst) .0 (and-left b₂ (b₃ && (b₄ && b₅)) e₂) in
-        let q₃ = same-exact-iff (m .proto) (n .proto) .0 (and-left b₃ (b₄ && b₅) e₃) in
-        let q₄ = same-exact-iff (m .sport) (n .sport) .0 (and-left b₄ b₅ e₄) in
-        let q₅ = same-exact-iff (m .dport) (n .dport) .0 (and-right b₄ b₅ e₄) in
-        λ i. record { port = q₀ i; src = q₁ i; dst = q₂ i; proto = q₃ i; sport = q₄ i; dport = q₅ i }
+        let e₁ = and-right b₀ (b₁ && (b₂ && (b₃ && (b₄ && (b₅ && b₆))))) e₀ in
+        let e₂ = and-right b₁ (b₂ && (b₃ && (b₄ && (b₅ && b₆)))) e₁ in
+        let e₃ = and-right b₂ (b₃ && (b₄ && (b₅ && b₆))) e₂ in
+        let e₄ = and-right b₃ (b₄ && (b₅ && b₆)) e₃ in
+        let e₅ = and-right b₄ (b₅ && b₆) e₄ in
+        let q₀ = same-exact-iff (m .port) (n .port) .0 (and-left b₀ (b₁ && (b₂ && (b₃ && (b₄ && (b₅ && b₆))))) e₀) in
+        let q₁ = same-exact-iff (m .vlan) (n .vlan) .0 (and-left b₁ (b₂ && (b₃ && (b₄ && (b₅ && b₆)))) e₁) in
+        let q₂ = same-prefix-iff (m .src) (n .src) .0 (and-left b₂ (b₃ && (b₄ && (b₅ && b₆))) e₂) in
+        let q₃ = same-prefix-iff (m .dst) (n .dst) .0 (and-left b₃ (b₄ && (b₅ && b₆)) e₃) in
+        let q₄ = same-exact-iff (m .proto) (n .proto) .0 (and-left b₄ (b₅ && b₆) e₄) in
+        let q₅ = same-exact-iff (m .sport) (n .sport) .0 (and-left b₅ b₆ e₅) in
+        let q₆ = same-exact-iff (m .dport) (n .dport) .0 (and-right b₅ b₆ e₅) in
+        λ i. record { port = q₀ i; vlan = q₁ i; src = q₂ i; dst = q₃ i; proto = q₄ i; sport = q₅ i; dport = q₆ i }
 
-    back : m ≡ n → (b₀ && (b₁ && (b₂ && (b₃ && (b₄ && b₅))))) ≡ true
+    back : m ≡ n → (b₀ && (b₁ && (b₂ && (b₃ && (b₄ && (b₅ && b₆)))))) ≡ true
     back q =
         and-intro (same-exact-iff (m .port) (n .port) .1 (ap (λ (x : Match). x .port) q))
+        (and-intro (same-exact-iff (m .vlan) (n .vlan) .1 (ap (λ (x : Match). x .vlan) q))
         (and-intro (same-prefix-iff (m .src) (n .src) .1 (ap (λ (x : Match). x .src) q))
         (and-intro (same-prefix-iff (m .dst) (n .dst) .1 (ap (λ (x : Match). x .dst) q))
         (and-intro (same-exact-iff (m .proto) (n .proto) .1 (ap (λ (x : Match). x .proto) q))
         (and-intro (same-exact-iff (m .sport) (n .sport) .1 (ap (λ (x : Match). x .sport) q))
-        (same-exact-iff (m .dport) (n .dport) .1 (ap (λ (x : Match). x .dport) q))))))
+        (same-exact-iff (m .dport) (n .dport) .1 (ap (λ (x : Match). x .dport) q)))))))

@@ -39,6 +39,7 @@ module _ (j k : Key) where
   abbrev by : KeyField → Ordering
   by KeyField.priority = orderOf (k .priority) (j .priority)
   by KeyField.port = orderOf (exactRank (j .pattern .port)) (exactRank (k .pattern .port))
+  by KeyField.vlan = orderOf (exactRank (j .pattern .vlan)) (exactRank (k .pattern .vlan))
   by KeyField.srcValue = orderOf (j .pattern .src .value) (k .pattern .src .value)
   by KeyField.srcLength = orderOf (j .pattern .src .length) (k .pattern .src .length)
   by KeyField.dstValue = orderOf (j .pattern .dst .value) (k .pattern .dst .value)
@@ -50,6 +51,7 @@ module _ (j k : Key) where
   before-iff : (f : KeyField) → (by f ≡ Ordering.Less) ↔ BeforeBy f j k
   before-iff KeyField.priority = number-iff (k .priority) (j .priority)
   before-iff KeyField.port = exact-iff (j .pattern .port) (k .pattern .port)
+  before-iff KeyField.vlan = exact-iff (j .pattern .vlan) (k .pattern .vlan)
   before-iff KeyField.srcValue = number-iff (j .pattern .src .value) (k .pattern .src .value)
   before-iff KeyField.srcLength = number-iff (j .pattern .src .length) (k .pattern .src .length)
   before-iff KeyField.dstValue = number-iff (j .pattern .dst .value) (k .pattern .dst .value)
@@ -61,6 +63,7 @@ module _ (j k : Key) where
   same-field : (f : KeyField) → (by f ≡ Ordering.Equal) ↔ SameIn f j k
   same-field KeyField.priority = (λ e. sym (equal-number (k .priority) (j .priority) e), λ q. number-equal (sym q))
   same-field KeyField.port = same-exact (j .pattern .port) (k .pattern .port)
+  same-field KeyField.vlan = same-exact (j .pattern .vlan) (k .pattern .vlan)
   same-field KeyField.srcValue = same-number (j .pattern .src .value) (k .pattern .src .value)
   same-field KeyField.srcLength = same-number (j .pattern .src .length) (k .pattern .src .length)
   same-field KeyField.dstValue = same-number (j .pattern .dst .value) (k .pattern .dst .value)

@@ -17,6 +17,7 @@ exactRank (Exact.Is a) = a + 1
 unfoldable pub rank : Match → List ℕ
 rank m =
     exactRank (m .port)
+    ∷ exactRank (m .vlan)
     ∷ m .src .value ∷ m .src .length
     ∷ m .dst .value ∷ m .dst .length
     ∷ exactRank (m .proto)

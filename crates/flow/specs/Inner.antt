@@ -31,6 +31,7 @@ prefixMeet p q = cond (leb (q .length) (p .length)) p q
 unfoldable pub meet : Match → Match → Match
 meet m n = record {
   port = exactMeet (m .port) (n .port);
+  vlan = exactMeet (m .vlan) (n .vlan);
   src = prefixMeet (m .src) (n .src);
   dst = prefixMeet (m .dst) (n .dst);
   proto = exactMeet (m .proto) (n .proto);
@@ -42,6 +43,7 @@ meet m n = record {
 unfoldable pub packetOf : Match → Packet
 packetOf m = record {
   port = exactPoint (m .port);
+  vlan = exactPoint (m .vlan);
   src = m .src .value;
   dst = m .dst .value;
   proto = exactPoint (m .proto);
@@ -59,8 +61,9 @@ samePrefix p q = eqb (p .value) (q .value) && eqb (p .length) (q .length)
 unfoldable pub sameMatch : Match → Match → Bool
 sameMatch m n =
     sameExact (m .port) (n .port)
+    && (sameExact (m .vlan) (n .vlan)
     && (samePrefix (m .src) (n .src)
     && (samePrefix (m .dst) (n .dst)
     && (sameExact (m .proto) (n .proto)
     && (sameExact (m .sport) (n .sport)
-    && sameExact (m .dport) (n .dport)))))
+    && sameExact (m .dport) (n .dport))))))

@@ -59,38 +59,41 @@ prefixWithin p q = maskedWithin (maskedOf p) (maskedOf q)
 abbrev pub prefixClear : Prefix → Bool
 prefixClear p = maskedClear (maskedOf p)
 
--- the match: all six fields
+-- the match: all seven fields
 unfoldable pub fits : Match → Packet → Bool
 fits m p =
     exactFits (m .port) (p .port)
+    && (exactFits (m .vlan) (p .vlan)
     && (prefixFits (m .src) (p .src)
     && (prefixFits (m .dst) (p .dst)
     && (exactFits (m .proto) (p .proto)
     && (exactFits (m .sport) (p .sport)
-    && exactFits (m .dport) (p .dport)))))
+    && exactFits (m .dport) (p .dport))))))
 
 unfoldable pub overlaps : Match → Match → Bool
 overlaps m n =
     exactOverlaps (m .port) (n .port)
+    && (exactOverlaps (m .vlan) (n .vlan)
     && (prefixOverlaps (m .src) (n .src)
     && (prefixOverlaps (m .dst) (n .dst)
     && (exactOverlaps (m .proto) (n .proto)
     && (exactOverlaps (m .sport) (n .sport)
-    && exactOverlaps (m .dport) (n .dport)))))
+    && exactOverlaps (m .dport) (n .dport))))))
 
 unfoldable pub within : Match → Match → Bool
 within m n =
     exactWithin (m .port) (n .port)
+    && (exactWithin (m .vlan) (n .vlan)
     && (prefixWithin (m .src) (n .src)
     && (prefixWithin (m .dst) (n .dst)
     && (exactWithin (m .proto) (n .proto)
     && (exactWithin (m .sport) (n .sport)
-    && exactWithin (m .dport) (n .dport)))))
+    && exactWithin (m .dport) (n .dport))))))
 
 unfoldable pub clear : Match → Bool
 clear m = prefixClear (m .src) && prefixClear (m .dst)
 
--- ranges: port, sport, dport 0 to 65535; proto 0 to 255; addresses of 32 bits; lengths 0 to 32, bits past the length zero
+-- ranges: port, sport, dport 0 to 65535; vlan 0 to 4095; proto 0 to 255; addresses of 32 bits; lengths 0 to 32, bits past the length zero
 abbrev pub ExactInRange : ℕ → Exact → Type 0
 ExactInRange w Exact.Any = Unit {0}
 ExactInRange w (Exact.Is a) = a < w
@@ -102,6 +105,7 @@ pub record PrefixInRange (p : Prefix) : Type 0 where
 
 pub record MatchInRange (m : Match) : Type 0 where
   pub port : ExactInRange 65536 (m .port)
+  pub vlan : ExactInRange 4096 (m .vlan)
   pub src : PrefixInRange (m .src)
   pub dst : PrefixInRange (m .dst)
   pub proto : ExactInRange 256 (m .proto)
@@ -110,6 +114,7 @@ pub record MatchInRange (m : Match) : Type 0 where
 
 pub record PacketInRange (p : Packet) : Type 0 where
   pub port : p .port < 65536
+  pub vlan : p .vlan < 4096
   pub src : p .src < 2 ^ 32
   pub dst : p .dst < 2 ^ 32
   pub proto : p .proto < 256
@@ -126,9 +131,10 @@ pub data Admits : Exact → ℕ → Type 0 where
 abbrev pub HasPrefix : Prefix → ℕ → Type 0
 HasPrefix p x = x / 2 ^ (32 - p .length) ≡ p .value / 2 ^ (32 - p .length)
 
--- a packet fits a match in all six fields
+-- a packet fits a match in all seven fields
 pub record FitsAll (m : Match) (p : Packet) : Type 0 where
   pub port : Admits (m .port) (p .port)
+  pub vlan : Admits (m .vlan) (p .vlan)
   pub src : HasPrefix (m .src) (p .src)
   pub dst : HasPrefix (m .dst) (p .dst)
   pub proto : Admits (m .proto) (p .proto)

@@ -6,13 +6,14 @@ use Rattle.flow.specs.Types.{Exact, Key}
 
 -- what table order looks at
 pub data KeyField : Type 0 where
-  priority port srcValue srcLength dstValue dstLength proto sport dport : KeyField
+  priority port vlan srcValue srcLength dstValue dstLength proto sport dport : KeyField
 
 -- in this sequence
 abbrev pub sequence : List KeyField
 sequence =
     KeyField.priority
     ∷ KeyField.port
+    ∷ KeyField.vlan
     ∷ KeyField.srcValue ∷ KeyField.srcLength
     ∷ KeyField.dstValue ∷ KeyField.dstLength
     ∷ KeyField.proto
@@ -29,6 +30,7 @@ pub data Smaller : Exact → Exact → Type 0 where
 abbrev pub BeforeBy : KeyField → Key → Key → Type 0
 BeforeBy KeyField.priority j k = k .priority < j .priority
 BeforeBy KeyField.port j k = Smaller (j .pattern .port) (k .pattern .port)
+BeforeBy KeyField.vlan j k = Smaller (j .pattern .vlan) (k .pattern .vlan)
 BeforeBy KeyField.srcValue j k = j .pattern .src .value < k .pattern .src .value
 BeforeBy KeyField.srcLength j k = j .pattern .src .length < k .pattern .src .length
 BeforeBy KeyField.dstValue j k = j .pattern .dst .value < k .pattern .dst .value
@@ -41,6 +43,7 @@ BeforeBy KeyField.dport j k = Smaller (j .pattern .dport) (k .pattern .dport)
 abbrev pub SameIn : KeyField → Key → Key → Type 0
 SameIn KeyField.priority j k = j .priority ≡ k .priority
 SameIn KeyField.port j k = j .pattern .port ≡ k .pattern .port
+SameIn KeyField.vlan j k = j .pattern .vlan ≡ k .pattern .vlan
 SameIn KeyField.srcValue j k = j .pattern .src .value ≡ k .pattern .src .value
 SameIn KeyField.srcLength j k = j .pattern .src .length ≡ k .pattern .src .length
 SameIn KeyField.dstValue j k = j .pattern .dst .value ≡ k .pattern .dst .value

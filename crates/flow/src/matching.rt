@@ -1,4 +1,4 @@
-// A match of six fields, and the packet that it is held against.
+// A match of seven fields, and the packet that it is held against.
 use crate::exact::Exact;
 use crate::ordering::Ordering;
 use crate::prefix::Prefix;
@@ -9,6 +9,7 @@ ghost use Rattle.flow.specs.Inner.{sameMatch};
 
 pub struct Match {
     pub port: Exact,
+    pub vlan: Exact,
     pub src: Prefix,
     pub dst: Prefix,
     pub proto: Exact,
@@ -18,6 +19,7 @@ pub struct Match {
 
 pub struct Packet {
     pub port: u16,
+    pub vlan: u16,
     pub src: u32,
     pub dst: u32,
     pub proto: u16,
@@ -30,13 +32,15 @@ impl Match {
         ensures { λ r. ⌜ r ≡ fits self p ⌝ }
     {
         let port = self.port;
+        let vlan = self.vlan;
         let proto = self.proto;
         let sport = self.sport;
         let dport = self.dport;
         port.fits(p.port)
-            & (self.src.fits(p.src)
-                & (self.dst.fits(p.dst)
-                    & (proto.fits(p.proto) & (sport.fits(p.sport) & dport.fits(p.dport)))))
+            & (vlan.fits(p.vlan)
+                & (self.src.fits(p.src)
+                    & (self.dst.fits(p.dst)
+                        & (proto.fits(p.proto) & (sport.fits(p.sport) & dport.fits(p.dport))))))
     }
 
     pub fn overlaps(self, other: Match) -> bool
@@ -44,6 +48,8 @@ impl Match {
     {
         let port = self.port;
         let its_port = other.port;
+        let vlan = self.vlan;
+        let its_vlan = other.vlan;
         let proto = self.proto;
         let its_proto = other.proto;
         let sport = self.sport;
@@ -51,10 +57,11 @@ impl Match {
         let dport = self.dport;
         let its_dport = other.dport;
         port.overlaps(its_port)
-            & (self.src.overlaps(other.src)
-                & (self.dst.overlaps(other.dst)
-                    & (proto.overlaps(its_proto)
-                        & (sport.overlaps(its_sport) & dport.overlaps(its_dport)))))
+            & (vlan.overlaps(its_vlan)
+                & (self.src.overlaps(other.src)
+                    & (self.dst.overlaps(other.dst)
+                        & (proto.overlaps(its_proto)
+                            & (sport.overlaps(its_sport) & dport.overlaps(its_dport))))))
     }
 
     pub fn within(self, other: Match) -> bool
@@ -62,6 +69,8 @@ impl Match {
     {
         let port = self.port;
         let its_port = other.port;
+        let vlan = self.vlan;
+        let its_vlan = other.vlan;
         let proto = self.proto;
         let its_proto = other.proto;
         let sport = self.sport;
@@ -69,10 +78,11 @@ impl Match {
         let dport = self.dport;
         let its_dport = other.dport;
         port.within(its_port)
-            & (self.src.within(other.src)
-                & (self.dst.within(other.dst)
-                    & (proto.within(its_proto)
-                        & (sport.within(its_sport) & dport.within(its_dport)))))
+            & (vlan.within(its_vlan)
+                & (self.src.within(other.src)
+                    & (self.dst.within(other.dst)
+                        & (proto.within(its_proto)
+                            & (sport.within(its_sport) & dport.within(its_dport))))))
     }
 
     // No address bit stands past its prefix's length.
@@ -87,6 +97,8 @@ impl Match {
     {
         let port = self.port;
         let its_port = other.port;
+        let vlan = self.vlan;
+        let its_vlan = other.vlan;
         let proto = self.proto;
         let its_proto = other.proto;
         let sport = self.sport;
@@ -94,9 +106,11 @@ impl Match {
         let dport = self.dport;
         let its_dport = other.dport;
         port.same(its_port)
-            & (self.src.same(other.src)
-                & (self.dst.same(other.dst)
-                    & (proto.same(its_proto) & (sport.same(its_sport) & dport.same(its_dport)))))
+            & (vlan.same(its_vlan)
+                & (self.src.same(other.src)
+                    & (self.dst.same(other.dst)
+                        & (proto.same(its_proto)
+                            & (sport.same(its_sport) & dport.same(its_dport))))))
     }
 
     pub fn order(self, other: Match) -> Ordering
@@ -104,6 +118,8 @@ impl Match {
     {
         let port = self.port;
         let its_port = other.port;
+        let vlan = self.vlan;
+        let its_vlan = other.vlan;
         let proto = self.proto;
         let its_proto = other.proto;
         let sport = self.sport;
@@ -115,6 +131,7 @@ impl Match {
         let by_proto = proto.order(its_proto, by_sport);
         let by_dst = self.dst.order(other.dst, by_proto);
         let by_src = self.src.order(other.src, by_dst);
-        port.order(its_port, by_src)
+        let by_vlan = vlan.order(its_vlan, by_src);
+        port.order(its_port, by_vlan)
     }
 }

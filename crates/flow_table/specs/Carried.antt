@@ -1,4 +1,4 @@
--- Document 01, "Trace text": `pkt` and `pout` have the six fields; writes have prio, those six, act (`dels` has no act; `deln`
+-- Document 01, "Trace text": `pkt` and `pout` have the seven fields; writes have prio, those seven, act (`dels` has no act; `deln`
 -- neither prio nor act).
 use Rattle.flow.specs.Matches.{MatchInRange, PacketInRange}
 use Rattle.flow.specs.Entries.{KeyInRange, ActionInRange}

@@ -1,8 +1,8 @@
 // Prints the report on each trace text of its data files. What must come out is in the file `stdout`.
 
 // The files 000 and on: the worked lines and no events; each refusal; barriers, messages and chains through tokens; pairs that commute or
-// do not; 256 events; traces drawn at random; from 053 on barriers and chains again, every two operations, many switches and events.
-const CASES: u8 = 76;
+// do not; 256 events; traces drawn at random; from 054 on barriers and chains again, every two operations, many switches and events.
+const CASES: u8 = 77;
 
 fn print_report(trace: &[u8]) {
     let mut out = list_report::room();

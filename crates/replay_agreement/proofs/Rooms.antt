@@ -1,5 +1,5 @@
--- Buffers of these lengths are never too short: 26,880 bytes for a normal text (`normal-room`), 53,760 for end tables (`tables-room`),
--- 7,168 for answers (`answers-room`), 65,280 for a list (`list-room`). A line of a table has at most 105 bytes, an answer line 28,
+-- Buffers of these lengths are never too short: 29,440 bytes for a normal text (`normal-room`), 58,880 for end tables (`tables-room`),
+-- 7,168 for answers (`answers-room`), 65,280 for a list (`list-room`). A line of a table has at most 115 bytes, an answer line 28,
 -- and there are such lines (`row-longest`, `answer-longest`). Assumes nothing.
 use mathlib.Core.Path.{_≡_, refl, ap, subst}
 use mathlib.Core.Bool.{Bool, true, false, cond}
@@ -15,7 +15,7 @@ use Rattle.basics.specs.Text.{bytes}
 use Rattle.text_numbers.specs.Print.{decimal, printNumber, hexDigit, hexadecimal, printHex}
 use Rattle.text_numbers.proofs.Print.{print-short}
 use Rattle.text_fields.specs.Types.{Exact, Prefix, Match}
-use Rattle.text_fields.specs.Print.{printExact, printPrefix, printLast, printSix, printMatch, printAction, printKey, printEntry}
+use Rattle.text_fields.specs.Print.{printExact, printPrefix, printLast, printFields, printMatch, printAction, printKey, printEntry}
 use Rattle.text_put_fields.proofs.Lengths.{action-most, entry-most}
 use Rattle.text_lines.specs.Lines.{unlines}
 use Rattle.flow_table.specs.FlowTable.{TableInRange, entry}
@@ -50,12 +50,12 @@ abbrev longestRow : Row
 longestRow =
     let address : Prefix = record { value = 4294967295; length = 32 } in
     let port = Exact.Is 65535 in
-    let pattern : Match = record { port = port; src = address; dst = address; proto = Exact.Is 255; sport = port; dport = port } in
+    let pattern : Match = record { port = port; vlan = Exact.Is 4095; src = address; dst = address; proto = Exact.Is 255; sport = port; dport = port } in
     row 15 (entry (record { priority = 65535; pattern = pattern }) (Action.Port 65535))
 
--- 104 bytes, and its LF
-pub row-longest : printRow longestRow ≡ bytes "sw=15 prio=65535 port=65535 src=ffffffff/32 dst=ffffffff/32 proto=255 sport=65535 dport=65535 act=p65535"
-unfolding printRow printEntry printKey printMatch printSix printLast printExact printPrefix printAction printNumber decimal printHex hexadecimal hexDigit
+-- 114 bytes, and its LF
+pub row-longest : printRow longestRow ≡ bytes "sw=15 prio=65535 port=65535 vlan=4095 src=ffffffff/32 dst=ffffffff/32 proto=255 sport=65535 dport=65535 act=p65535"
+unfolding printRow printEntry printKey printMatch printFields printLast printExact printPrefix printAction printNumber decimal printHex hexadecimal hexDigit
 row-longest = refl
 
 -- 28 bytes
@@ -64,17 +64,17 @@ unfolding printAnswer printItem printAction printNumber decimal
 answer-longest = refl
 
 -- ---- lines of tables
-row-most : (r : Row) → RowInRange r → length (printRow r) ≤ 104
+row-most : (r : Row) → RowInRange r → length (printRow r) ≤ 114
 unfolding printRow
 row-most r h = let w = h .switch in simp length-append (omega (arith, print-short 1 (r .switch) (omega arith), entry-most (r .entry) (h .entry)))
 
-normal-most : (rs : List Row) → ((r : Row) → List·Memᴰ r rs → RowInRange r) → length (normalText rs) ≤ 105 * length rs
+normal-most : (rs : List Row) → ((r : Row) → List·Memᴰ r rs → RowInRange r) → length (normalText rs) ≤ 115 * length rs
 unfolding normalText unlines
 normal-most [] h = omega arith
 normal-most (r ∷ rs) h = simp length-append (omega (arith, row-most r (h r (List·Memᴰ·head refl)), normal-most rs (λ x m. h x (List·Memᴰ·tail m))))
 
 -- the normal text of an accepted table text
-pub normal-room : (t : List ℕ) (rs : List Row) → readTables t ≡ inr rs → length (normalText rs) ≤ 26880
+pub normal-room : (t : List ℕ) (rs : List Row) → readTables t ≡ inr rs → length (normalText rs) ≤ 29440
 normal-room t rs e = omega (arith, normal-most rs (accepted-range t rs e), accepted-length t rs e)
 
 -- ---- answer lines
@@ -141,7 +141,7 @@ module _ (s : List ℕ) (es : List Event) (trace : readTrace s ≡ inr es) where
         }
 
     -- its end tables
-    pub tables-room : length (tablesText (endTables (operationAt es) o (tablesOf rs))) ≤ 53760
+    pub tables-room : length (tablesText (endTables (operationAt es) o (tablesOf rs))) ≤ 58880
     tables-room =
         omega (
           arith,
@@ -164,5 +164,5 @@ module _ (s : List ℕ) (es : List Event) (trace : readTrace s ≡ inr es) where
         omega (arith, few)
 
     -- so neither 32 nor 33 applies
-    pub never-short : (a b : ℕ) → 53760 ≤ a → 7168 ≤ b → LongEnough s t o a b
+    pub never-short : (a b : ℕ) → 58880 ≤ a → 7168 ≤ b → LongEnough s t o a b
     never-short a b h k = room-enough s es trace t rs tables o order a b (omega (arith, tables-room)) (omega (arith, answers-room))

@@ -18,7 +18,7 @@ fn read_arg(i: usize, buf: &mut [u8]) -> Input
     program_input::read_file(&name[..n], buf)
 }
 
-// Both texts, or the refusal. The buffers hold the longest texts that there are: 512 lines of 105 bytes, and 256 of 29.
+// Both texts, or the refusal. The buffers hold the longest texts that there are: 512 lines of 115 bytes, and 256 of 28.
 fn print_replay<'a>(trace: &'a [u8], tables: &'a [u8], order: &[u8]) {
     let mut ends = io::large_buffer();
     let mut answers = [0u8; 8192];

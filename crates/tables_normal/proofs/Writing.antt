@@ -65,13 +65,13 @@ unfolding normalText unlines
 normal-snoc [] r = refl
 normal-snoc (x ∷ rs) r = ap (λ (l : List ℕ). printRow x ++ 10 ∷ l) (normal-snoc rs r) ∙ sym (append-assoc (printRow x) (10 ∷ normalText rs) (printRow r ++ bytes "\n"))
 
-pub normal-length : (rs : List Row) → length (normalText rs) ≤ 251 * length rs
+pub normal-length : (rs : List Row) → length (normalText rs) ≤ 277 * length rs
 unfolding normalText unlines
 normal-length [] = omega arith
 normal-length (r ∷ rs) = simp length-append (omega (arith, row-length r, normal-length rs))
 
 -- ---- the loop over the rows, the first i of the first n written
-pub line-room : (r : Row) (xs : List ℕ) (n : ℕ) (ys : List ℕ) → Put (printRow r ++ bytes "\n") 0 xs n ys → n ≤ 251
+pub line-room : (r : Row) (xs : List ℕ) (n : ℕ) (ys : List ℕ) → Put (printRow r ++ bytes "\n") 0 xs n ys → n ≤ 277
 line-room r xs n ys p = omega (arith, p .after, length-append (printRow r) (bytes "\n"), row-length r)
 
 module _ (l : List Row) (n : ℕ) where

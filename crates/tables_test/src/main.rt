@@ -4,7 +4,7 @@ use call_answers::NormalAnswer;
 
 // The numbered files: 00 to 03 the same rules in four orders; 04 no line, 05 one, 06 256 lines; 07 to 14 refusals 13, 16, 11, 12 and 14
 // by their lines; 15 to 19 address bits, and 14, 15 and 16 in their order; the rest malformed lines.
-const CASES: u8 = 40;
+const CASES: u8 = 42;
 
 // An answer: the normal text, or the refusal.
 fn answer(tables: &[u8], a: NormalAnswer, out: &[u8]) {

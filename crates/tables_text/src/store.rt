@@ -21,6 +21,7 @@ pub fn no_rows() -> Rows
     };
     let pattern = Match {
         port: Exact::Any,
+        vlan: Exact::Any,
         src: all,
         dst: all,
         proto: Exact::Any,

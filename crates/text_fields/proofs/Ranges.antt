@@ -22,6 +22,7 @@ match-range m = (
   λ (w, c). let (src, dst) = clear-both m .0 c in
       record {
         port = w .port;
+        vlan = w .vlan;
         src = prefix-range (m .src) .0 (w .src, src);
         dst = prefix-range (m .dst) .0 (w .dst, dst);
         proto = w .proto;
@@ -31,6 +32,7 @@ match-range m = (
   λ r. (
     record {
       port = r .port;
+      vlan = r .vlan;
       src = prefix-range (m .src) .1 (r .src) .0;
       dst = prefix-range (m .dst) .1 (r .dst) .0;
       proto = r .proto;

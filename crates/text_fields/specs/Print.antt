@@ -14,21 +14,25 @@ printExact (Exact.Is v) = printNumber v
 unfoldable pub printPrefix : Prefix → List ℕ
 printPrefix p = printHex (p .value) ++ (bytes "/" ++ printNumber (p .length))
 
--- the last three of the six fields, by how a number is printed
+-- the last three fields, by how a number is printed
 unfoldable pub printLast : {N : Type 0} → (N → List ℕ) → N → N → N → List ℕ
 printLast number proto sport dport = (bytes " proto=" ++ number proto) ++ ((bytes " sport=" ++ number sport) ++ (bytes " dport=" ++ number dport))
 
--- the six fields, by how a number and an address is printed
-unfoldable pub printSix : {N A : Type 0} → (N → List ℕ) → (A → List ℕ) → N → A → A → N → N → N → List ℕ
-printSix number address port src dst proto sport dport =
-    (bytes " port=" ++ number port) ++ ((bytes " src=" ++ address src) ++ ((bytes " dst=" ++ address dst) ++ printLast number proto sport dport))
+-- the fields, by how a number and an address is printed
+unfoldable pub printFields : {N A : Type 0} → (N → List ℕ) → (A → List ℕ) → N → N → A → A → N → N → N → List ℕ
+printFields number address port vlan src dst proto sport dport =
+    (bytes " port=" ++ number port)
+    ++ ((bytes " vlan=" ++ number vlan)
+    ++ ((bytes " src=" ++ address src)
+    ++ ((bytes " dst=" ++ address dst)
+    ++ printLast number proto sport dport)))
 
 unfoldable pub printMatch : Match → List ℕ
-printMatch m = printSix printExact printPrefix (m .port) (m .src) (m .dst) (m .proto) (m .sport) (m .dport)
+printMatch m = printFields printExact printPrefix (m .port) (m .vlan) (m .src) (m .dst) (m .proto) (m .sport) (m .dport)
 
 -- all exact
 unfoldable pub printPacket : Packet → List ℕ
-printPacket p = printSix printNumber printHex (p .port) (p .src) (p .dst) (p .proto) (p .sport) (p .dport)
+printPacket p = printFields printNumber printHex (p .port) (p .vlan) (p .src) (p .dst) (p .proto) (p .sport) (p .dport)
 
 -- `drop`, `ctl` or `pN`
 unfoldable pub printAction : Action → List ℕ

@@ -18,22 +18,27 @@ readPrefix = mapped (λ (v, n). record { value = v; length = n }) (both readHex 
 unfoldable pub readLast : {N : Type 0} → (ℕ → Reader N) → Reader (N × (N × N))
 readLast number = both (keyed (bytes " proto=") (number 255)) (both (keyed (bytes " sport=") (number 65535)) (keyed (bytes " dport=") (number 65535)))
 
--- the six fields, by how a number and an address is read
-unfoldable pub readSix : {N A : Type 0} → (ℕ → Reader N) → Reader A → Reader (N × (A × (A × (N × (N × N)))))
-readSix number address = both (keyed (bytes " port=") (number 65535)) (both (keyed (bytes " src=") address) (both (keyed (bytes " dst=") address) (readLast number)))
+-- the fields, by how a number and an address is read
+unfoldable pub readFields : {N A : Type 0} → (ℕ → Reader N) → Reader A → Reader (N × (N × (A × (A × (N × (N × N))))))
+readFields number address =
+    both (keyed (bytes " port=") (number 65535))
+    (both (keyed (bytes " vlan=") (number 4095))
+    (both (keyed (bytes " src=") address)
+    (both (keyed (bytes " dst=") address)
+    (readLast number))))
 
-abbrev pub matchFrom : Exact × (Prefix × (Prefix × (Exact × (Exact × Exact)))) → Match
-matchFrom (port, (src, (dst, (proto, (sport, dport))))) = record { port = port; src = src; dst = dst; proto = proto; sport = sport; dport = dport }
+abbrev pub matchFrom : Exact × (Exact × (Prefix × (Prefix × (Exact × (Exact × Exact))))) → Match
+matchFrom (port, (vlan, (src, (dst, (proto, (sport, dport)))))) = record { port = port; vlan = vlan; src = src; dst = dst; proto = proto; sport = sport; dport = dport }
 
 unfoldable pub readMatch : Reader Match
-readMatch = mapped matchFrom (readSix readExact readPrefix)
+readMatch = mapped matchFrom (readFields readExact readPrefix)
 
-abbrev pub packetFrom : ℕ × (ℕ × (ℕ × (ℕ × (ℕ × ℕ)))) → Packet
-packetFrom (port, (src, (dst, (proto, (sport, dport))))) = record { port = port; src = src; dst = dst; proto = proto; sport = sport; dport = dport }
+abbrev pub packetFrom : ℕ × (ℕ × (ℕ × (ℕ × (ℕ × (ℕ × ℕ))))) → Packet
+packetFrom (port, (vlan, (src, (dst, (proto, (sport, dport)))))) = record { port = port; vlan = vlan; src = src; dst = dst; proto = proto; sport = sport; dport = dport }
 
 -- all exact
 unfoldable pub readPacket : Reader Packet
-readPacket = mapped packetFrom (readSix readNumber readHex)
+readPacket = mapped packetFrom (readFields readNumber readHex)
 
 -- `drop`, `ctl` or `pN`
 unfoldable pub readAction : Reader Action

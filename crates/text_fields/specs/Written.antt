@@ -13,6 +13,7 @@ pub record PrefixWritten (p : Prefix) : Type 0 where
 
 pub record MatchWritten (m : Match) : Type 0 where
   pub port : ExactInRange 65536 (m .port)
+  pub vlan : ExactInRange 4096 (m .vlan)
   pub src : PrefixWritten (m .src)
   pub dst : PrefixWritten (m .dst)
   pub proto : ExactInRange 256 (m .proto)

@@ -12,7 +12,7 @@ ghost use mathlib.Core.List.{_++_};
 ghost use Prim.Native.Nat.{_+_, _≤_, _<_, _^_};
 ghost use lib.ListN.{length};
 ghost use Rattle.text_numbers.specs.Inner.{Put};
-ghost use Rattle.text_fields.specs.Print.{printExact, printPrefix, printMatch, printAction, printKey, printEntry};
+ghost use Rattle.text_fields.specs.Print.{printExact, printPrefix, printLast, printMatch, printAction, printKey, printEntry};
 
 // A key, and then `*` or a number.
 fn put_exact(out: &mut [u8], at: usize, key: &[u8], x: Exact) -> usize
@@ -39,23 +39,33 @@ fn put_prefix(out: &mut [u8], at: usize, key: &[u8], p: Prefix) -> usize
     put_number(out, length, p.length as usize)
 }
 
-// The six fields of a match.
+// The last three fields of a match.
+fn put_last(out: &mut [u8], at: usize, proto: Exact, sport: Exact, dport: Exact) -> usize
+    requires { ⌜ at + 54 < 2 ^ 31 ⌝ }
+    ensures { λ r. ⌜ Put (printLast printExact proto sport dport) at (now (out .entry)) r (now (out .exit)) ⌝ }
+{
+    let a = put_exact(out, at, b" proto=", proto);
+    let b = put_exact(out, a, b" sport=", sport);
+    put_exact(out, b, b" dport=", dport)
+}
+
+// The fields of a match.
 fn put_match(out: &mut [u8], at: usize, m: Match) -> usize
     requires { ⌜ at < 2 ^ 30 ⌝ }
     ensures { λ r. ⌜ Put (printMatch m) at (now (out .entry)) r (now (out .exit)) ⌝ }
 {
     let port = m.port;
+    let vlan = m.vlan;
     let src = m.src;
     let dst = m.dst;
     let proto = m.proto;
     let sport = m.sport;
     let dport = m.dport;
     let a = put_exact(out, at, b" port=", port);
-    let b = put_prefix(out, a, b" src=", src);
-    let c = put_prefix(out, b, b" dst=", dst);
-    let d = put_exact(out, c, b" proto=", proto);
-    let e = put_exact(out, d, b" sport=", sport);
-    put_exact(out, e, b" dport=", dport)
+    let b = put_exact(out, a, b" vlan=", vlan);
+    let c = put_prefix(out, b, b" src=", src);
+    let d = put_prefix(out, c, b" dst=", dst);
+    put_last(out, d, proto, sport, dport)
 }
 
 // `drop`, `ctl` or `pN`.

@@ -1,5 +1,5 @@
--- Document 01, "Trace text": for all but `oth` then `sw` (0 to 15); for `pkt` and `pout` port src dst proto sport dport; for
--- writes prio, those six, act (`dels` has no act; `deln` neither prio nor act).
+-- Document 01, "Trace text": for all but `oth` then `sw` (0 to 15); for `pkt` and `pout` port vlan src dst proto sport dport; for
+-- writes prio, those seven, act (`dels` has no act; `deln` neither prio nor act).
 use mathlib.Core.Bool.{Bool, true}
 use mathlib.Core.List.{List, [], _++_}
 use mathlib.Core.Option.{some}

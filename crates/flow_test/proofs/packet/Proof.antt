@@ -4,10 +4,10 @@ use Rattle.flow_test.proofs.packet.Statement.{statement}
 use Rattle.flow_test.proofs.packet.Tie as tie
 
 abbrev Inv-loop : tie.InvT-loop
-Inv-loop p i₀ i = i ≤ 26
+Inv-loop p i₀ i = i ≤ 31
 
 abbrev μ-loop : tie.MeasureT-loop
-μ-loop p i₀ i = 26 - i
+μ-loop p i₀ i = 31 - i
 
 pub packet-spec : {M : Type 1} → statement M
 packet-spec =

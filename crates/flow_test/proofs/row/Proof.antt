@@ -4,10 +4,10 @@ use Rattle.flow_test.proofs.row.Statement.{statement}
 use Rattle.flow_test.proofs.row.Tie as tie
 
 abbrev Inv-loop : tie.InvT-loop
-Inv-loop i m j₀ j = j ≤ 26
+Inv-loop i m j₀ j = j ≤ 31
 
 abbrev μ-loop : tie.MeasureT-loop
-μ-loop i m j₀ j = 26 - j
+μ-loop i m j₀ j = 31 - j
 
 pub row-spec : {M : Type 1} → statement M
 row-spec =

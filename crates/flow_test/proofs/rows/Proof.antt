@@ -4,10 +4,10 @@ use Rattle.flow_test.proofs.rows.Statement.{statement}
 use Rattle.flow_test.proofs.rows.Tie as tie
 
 abbrev Inv-loop : tie.InvT-loop
-Inv-loop i₀ i = i ≤ 26
+Inv-loop i₀ i = i ≤ 31
 
 abbrev μ-loop : tie.MeasureT-loop
-μ-loop i₀ i = 26 - i
+μ-loop i₀ i = 31 - i
 
 pub rows-spec : {M : Type 1} → statement M
 rows-spec =

@@ -4,10 +4,10 @@ use Rattle.tables_test.proofs.main.Statement.{statement}
 use Rattle.tables_test.proofs.main.Tie as tie
 
 abbrev Inv-loop : tie.InvT-loop
-Inv-loop i₀ i = i ≤ 40
+Inv-loop i₀ i = i ≤ 42
 
 abbrev μ-loop : tie.MeasureT-loop
-μ-loop i₀ i = 40 - i
+μ-loop i₀ i = 42 - i
 
 pub main-spec : {M : Type 1} → statement M
 main-spec =

@@ -18,7 +18,7 @@ Inv-loop out₀ rows n at₀ i₀ out at i =
     × (n ≤ 512)
     × (length (rows .rows) ≡ 512)
     × (length out ≡ length out₀)
-    × (at ≤ 251 * i)
+    × (at ≤ 277 * i)
     × Put (normalText (take i (take n (rows .rows)))) 0 out₀ at out
 
 abbrev μ-loop : tie.MeasureT-loop

@@ -1,7 +1,7 @@
 //! When two table events of one switch commute.
 
-use crate::flow::{Action, Key};
-use crate::packed::{Bits, Row};
+use crate::flow::Action;
+use crate::packed::Row;
 use crate::table::TableOperation;
 use Kind::{Add, CheckedAdd, Delete, Modify, Packet, StrictDelete};
 
@@ -33,14 +33,13 @@ enum Kind {
 impl Flat {
     /// The event of an operation. Fields that it lacks are the same for all of its kind.
     pub(crate) fn of(operation: &TableOperation) -> Flat {
-        let only = |matching| Row::new(&Key::new(0, matching), Action::Drop);
         let (kind, row) = match operation {
-            TableOperation::Packet(_, packet) => (Packet, only(packet.as_match())),
+            TableOperation::Packet(_, packet) => (Packet, Row::of_match(packet.as_match())),
             TableOperation::Add(entry) | TableOperation::StrictModify(entry) => (Add, Row::of(entry)),
             TableOperation::CheckedAdd(entry) => (CheckedAdd, Row::of(entry)),
             TableOperation::Modify(entry) => (Modify, Row::of(entry)),
             TableOperation::StrictDelete(key) => (StrictDelete, Row::new(key, Action::Drop)),
-            TableOperation::Delete(matching) => (Delete, only(*matching)),
+            TableOperation::Delete(matching) => (Delete, Row::of_match(*matching)),
         };
         Flat { kind, row }
     }
@@ -48,7 +47,7 @@ impl Flat {
     /// Whether two events commute. Each row of the table says yes where the matches don't overlap, which is asked
     /// first.
     pub(crate) fn commutes(&self, other: &Flat) -> bool {
-        !self.row.bits.overlaps(&other.row.bits) || self.by_table(other)
+        !self.row.overlaps(&other.row) || self.by_table(other)
     }
 
     /// What the table of pairs says.
@@ -60,28 +59,29 @@ impl Flat {
 
     /// The verdict of the row that names the pair in this direction, if there is one.
     fn by_row(&self, other: &Flat) -> Option<bool> {
-        let (one, two): (&Row, &Row) = (&self.row, &other.row);
-        let (m, n): (&Bits, &Bits) = (&one.bits, &two.bits);
+        let (one, two) = (&self.row, &other.row);
         let verdict = match (self.kind, other.kind) {
             (Packet, Packet) => true,
             (StrictDelete | Delete, StrictDelete | Delete) => true,
 
             // The packet doesn't fit.
-            (Packet, _) => !m.overlaps(n),
+            (Packet, _) => !one.overlaps(two),
 
             (Add, Add) => !one.has_key_of(two) || one.action == two.action,
             (Add, StrictDelete) => !one.has_key_of(two),
-            (Add, Delete) => !m.within(n),
-            (Add, Modify) => !m.within(n) || one == two,
+            (Add, Delete) => !one.within(two),
+            (Add, Modify) => !one.within(two) || one == two,
 
             (CheckedAdd, Add | CheckedAdd | StrictDelete) => !one.clashes(two),
-            (CheckedAdd, Modify) => !m.within(n) && !one.clashes(two),
-            (CheckedAdd, Delete) => !m.overlaps(n),
+            (CheckedAdd, Modify) => !one.within(two) && !one.clashes(two),
+            (CheckedAdd, Delete) => !one.overlaps(two),
 
-            (Modify, Delete) => !m.overlaps(n),
-            (Modify, StrictDelete) => !n.within(m),
+            (Modify, Delete) => !one.overlaps(two),
+            (Modify, StrictDelete) => !two.within(one),
             (Modify, Modify) => {
-                !m.overlaps(n) || (one.action == two.action && !m.within(n) && !n.within(m)) || one == two
+                !one.overlaps(two)
+                    || (one.action == two.action && !one.within(two) && !two.within(one))
+                    || one == two
             }
             _ => return None,
         };

@@ -22,6 +22,8 @@ pub struct Prefix {
 pub struct Match {
     /// The port that the packet came in by.
     pub port: Exact<u16>,
+    /// The VLAN, 0 to 4095.
+    pub vlan: Exact<u16>,
     /// The source address.
     pub src: Prefix,
     /// The destination address.
@@ -34,11 +36,13 @@ pub struct Match {
     pub dport: Exact<u16>,
 }
 
-/// A packet: all six fields, exact.
+/// A packet: all seven fields, exact.
 #[derive(Clone, Copy, Debug, PartialEq, Eq)]
 pub struct Packet {
     /// The port that it came in by.
     pub port: u16,
+    /// The VLAN, 0 to 4095.
+    pub vlan: u16,
     /// The source address.
     pub src: u32,
     /// The destination address.
@@ -130,12 +134,20 @@ impl Prefix {
 
 impl Match {
     /// The match that every packet fits.
-    pub const ANY: Match =
-        Match { port: None, src: Prefix::ANY, dst: Prefix::ANY, proto: None, sport: None, dport: None };
+    pub const ANY: Match = Match {
+        port: None,
+        vlan: None,
+        src: Prefix::ANY,
+        dst: Prefix::ANY,
+        proto: None,
+        sport: None,
+        dport: None,
+    };
 
     /// Whether a packet fits.
     pub fn fits(&self, packet: &Packet) -> bool {
         admits(self.port, packet.port)
+            && admits(self.vlan, packet.vlan)
             && self.src.admits(packet.src)
             && self.dst.admits(packet.dst)
             && admits(self.proto, packet.proto)
@@ -146,6 +158,7 @@ impl Match {
     /// Whether some packet fits both.
     pub fn overlaps(&self, other: &Match) -> bool {
         share(self.port, other.port)
+            && share(self.vlan, other.vlan)
             && self.src.shares(other.src)
             && self.dst.shares(other.dst)
             && share(self.proto, other.proto)
@@ -156,6 +169,7 @@ impl Match {
     /// Whether every packet that fits this match fits the other.
     pub fn within(&self, other: &Match) -> bool {
         narrower(self.port, other.port)
+            && narrower(self.vlan, other.vlan)
             && self.src.narrower(other.src)
             && self.dst.narrower(other.dst)
             && narrower(self.proto, other.proto)
@@ -186,6 +200,7 @@ impl Packet {
     pub fn as_match(&self) -> Match {
         Match {
             port: Some(self.port),
+            vlan: Some(self.vlan),
             src: Prefix { value: self.src, len: 32 },
             dst: Prefix { value: self.dst, len: 32 },
             proto: Some(self.proto),
@@ -232,11 +247,15 @@ mod tests {
         assert!(a.overlaps(&d) && !a.within(&d) && !d.within(&a));
         assert!(a.within(&a) && a.within(&Match::ANY));
         assert!(!dst(0x0b00_0000, 8).overlaps(&a));
+        let vlan = |n| Match { vlan: Some(n), ..a };
+        assert!(vlan(1).within(&a) && !a.within(&vlan(1)) && vlan(1).overlaps(&a));
+        assert!(!vlan(1).overlaps(&vlan(2)) && vlan(1).overlaps(&d));
     }
 
     #[test]
     fn table_order() {
         let number = |n| Match { port: Some(n), ..Match::ANY };
+        let src = |value, len| Match { src: Prefix { value, len }, ..Match::ANY };
         let rising = [
             Key::new(7, number(3)),
             Key::new(6, Match::ANY),
@@ -245,8 +264,14 @@ mod tests {
             Key::new(6, dst(0, 1)),
             Key::new(6, dst(0x0100_0000, 8)),
             Key::new(6, dst(0x0100_0000, 9)),
-            Key::new(6, Match { src: Prefix { value: 0, len: 1 }, ..Match::ANY }),
+            Key::new(6, src(0, 1)),
+            Key::new(6, src(u32::MAX, 32)),
+            Key::new(6, Match { vlan: Some(0), ..Match::ANY }),
+            Key::new(6, Match { vlan: Some(9), ..src(u32::MAX, 32) }),
+            Key::new(6, Match { vlan: Some(10), ..Match::ANY }),
+            Key::new(6, Match { vlan: Some(4095), ..Match::ANY }),
             Key::new(6, number(0)),
+            Key::new(6, Match { vlan: Some(4095), ..number(0) }),
             Key::new(6, number(10)),
             Key::new(0, Match::ANY),
         ];

@@ -1,7 +1,7 @@
 //! A flow table, and what each event does to it and answers.
 
 use crate::flow::{Action, Entry, Key, Match, Packet};
-use crate::packed::{Bits, Row};
+use crate::packed::Row;
 
 /// Where a packet that is looked up came from. What it finds doesn't depend on this.
 #[derive(Clone, Copy, Debug, PartialEq, Eq)]
@@ -121,8 +121,8 @@ impl Table {
             TableOperation::Modify(entry) => self.modify(Row::of(entry)),
             TableOperation::StrictDelete(key) => self.remove(key),
             TableOperation::Delete(matching) => {
-                let bits = Bits::of(matching);
-                self.rows.retain(|row| !row.bits.within(&bits));
+                let cleared = Row::of_match(*matching);
+                self.rows.retain(|row| !row.within(&cleared));
             }
         }
         None
@@ -147,8 +147,8 @@ impl Table {
     }
 
     fn look_up(&self, packet: &Packet) -> Answer {
-        let packet = Bits::of(&packet.as_match());
-        let mut fitting = self.rows.iter().filter(|row| row.bits.overlaps(&packet));
+        let packet = Row::of_match(packet.as_match());
+        let mut fitting = self.rows.iter().filter(|row| row.overlaps(&packet));
         let Some(first) = fitting.next() else {
             return Answer::Miss;
         };
@@ -159,7 +159,7 @@ impl Table {
     fn checked_add(&mut self, row: Row) -> Answer {
         let start = self.rows.partition_point(|other| other.priority > row.priority);
         let mut equals = self.rows[start..].iter().take_while(|other| other.priority == row.priority);
-        if equals.any(|other| other.bits.overlaps(&row.bits)) {
+        if equals.any(|other| other.overlaps(&row)) {
             return Answer::No;
         }
         self.set(row);
@@ -169,7 +169,7 @@ impl Table {
     fn modify(&mut self, row: Row) {
         let mut found = false;
         for other in &mut self.rows {
-            if other.bits.within(&row.bits) {
+            if other.within(&row) {
                 other.action = row.action;
                 found = true;
             }

@@ -12,7 +12,7 @@ use std::fmt::{self, Display};
 pub const SWITCHES: usize = 16;
 
 /// The most bytes of a table line with its LF.
-const LONGEST_LINE: usize = 105;
+const LONGEST_LINE: usize = 115;
 
 /// One table for each switch.
 pub type Tables = [Table; SWITCHES];

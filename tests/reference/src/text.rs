@@ -6,6 +6,8 @@ use crate::flow::{Action, Entry, Exact, Key, Match, Packet, Prefix};
 const MAX_BYTES: usize = 65_535;
 /// The most lines that a text may have.
 const MAX_LINES: usize = 256;
+/// The largest VLAN.
+const MAX_VLAN: u16 = 4095;
 
 /// The lines of a text, without their LF. What follows the last LF is no line.
 pub fn lines(text: &[u8]) -> impl Iterator<Item = &[u8]> {
@@ -118,10 +120,12 @@ impl<'a> Items<'a> {
         Some(Prefix { value, len: self.number(32)? as u8 })
     }
 
-    /// The six fields of a match, with the space before them.
+    /// The seven fields of a match, with the space before them.
     pub fn matching(&mut self) -> Option<Match> {
         self.pass(b" port=")?;
         let port = self.any_or_number(u16::MAX)?;
+        self.pass(b" vlan=")?;
+        let vlan = self.any_or_number(MAX_VLAN)?;
         self.pass(b" src=")?;
         let src = self.prefix()?;
         self.pass(b" dst=")?;
@@ -132,13 +136,15 @@ impl<'a> Items<'a> {
         let sport = self.any_or_number(u16::MAX)?;
         self.pass(b" dport=")?;
         let dport = self.any_or_number(u16::MAX)?;
-        Some(Match { port, src, dst, proto, sport, dport })
+        Some(Match { port, vlan, src, dst, proto, sport, dport })
     }
 
-    /// The six fields of a packet, with the space before them.
+    /// The seven fields of a packet, with the space before them.
     pub fn packet(&mut self) -> Option<Packet> {
         self.pass(b" port=")?;
         let port = self.number(u16::MAX)?;
+        self.pass(b" vlan=")?;
+        let vlan = self.number(MAX_VLAN)?;
         self.pass(b" src=")?;
         let src = self.address()?;
         self.pass(b" dst=")?;
@@ -149,10 +155,10 @@ impl<'a> Items<'a> {
         let sport = self.number(u16::MAX)?;
         self.pass(b" dport=")?;
         let dport = self.number(u16::MAX)?;
-        Some(Packet { port, src, dst, proto, sport, dport })
+        Some(Packet { port, vlan, src, dst, proto, sport, dport })
     }
 
-    /// `prio` and the six fields, with the space before them.
+    /// `prio` and the seven fields, with the space before them.
     pub fn key(&mut self) -> Option<Key> {
         self.pass(b" prio=")?;
         let priority = self.number(u16::MAX)?;

@@ -48,6 +48,8 @@ pub fn prefix(text: &mut Vec<u8>, prefix: Prefix) {
 pub fn matching(text: &mut Vec<u8>, matching: &Match) {
     text.extend_from_slice(b"port=");
     any_or_number(text, matching.port);
+    text.extend_from_slice(b" vlan=");
+    any_or_number(text, matching.vlan);
     text.extend_from_slice(b" src=");
     prefix(text, matching.src);
     text.extend_from_slice(b" dst=");
@@ -77,7 +79,7 @@ pub fn entry(text: &mut Vec<u8>, row: &Row) {
     text.extend_from_slice(b"prio=");
     number(text, row.priority);
     text.push(b' ');
-    matching(text, &row.bits.matching());
+    matching(text, &row.matching());
     text.extend_from_slice(b" act=");
     action(text, row.action);
 }

@@ -9,15 +9,15 @@ use reference::{
 };
 
 const WORKED: &str = "\
-ev=0 do=pkt in=- out=1 sw=1 port=1 src=0a000001 dst=0a000002 proto=6 sport=4000 dport=80
+ev=0 do=pkt in=- out=1 sw=1 port=1 vlan=1 src=0a000001 dst=0a000002 proto=6 sport=4000 dport=80
 ev=1 do=oth in=1 out=2,3,4
-ev=2 do=add in=2 out=- sw=1 prio=10 port=* src=00000000/0 dst=0a000002/32 proto=* sport=* dport=* act=p2
-ev=3 do=add in=3 out=- sw=2 prio=10 port=* src=00000000/0 dst=0a000002/32 proto=* sport=* dport=* act=p3
-ev=4 do=pkt in=4 out=- sw=2 port=1 src=0a000001 dst=0a000002 proto=6 sport=4000 dport=80
+ev=2 do=add in=2 out=- sw=1 prio=10 port=* vlan=* src=00000000/0 dst=0a000002/32 proto=* sport=* dport=* act=p2
+ev=3 do=add in=3 out=- sw=2 prio=10 port=* vlan=* src=00000000/0 dst=0a000002/32 proto=* sport=* dport=* act=p3
+ev=4 do=pkt in=4 out=- sw=2 port=1 vlan=1 src=0a000001 dst=0a000002 proto=6 sport=4000 dport=80
 ";
 
-const ANY: &str = "port=* src=00000000/0 dst=00000000/0 proto=* sport=* dport=*";
-const PACKET: &str = "port=1 src=00000000 dst=00000000 proto=1 sport=1 dport=1";
+const ANY: &str = "port=* vlan=* src=00000000/0 dst=00000000/0 proto=* sport=* dport=*";
+const PACKET: &str = "port=1 vlan=1 src=00000000 dst=00000000 proto=1 sport=1 dport=1";
 
 /// Number, place and line of the refusal of a trace; number 0 where it is accepted.
 fn trace_refusal(text: &str) -> (u8, usize, String) {
@@ -227,7 +227,7 @@ fn malformed_lines() {
         "ev=0 do=bar in=- out=- sw=16",
         "ev=0 do=bar in=- out=-",
         "ev=0 do=msg in=- out=- sw=1 prio=1",
-        "ev=0 do=poutin=- out=- sw=1 port=1 src=00000000 dst=00000000 proto=1 sport=1 dport=1",
+        "ev=0 do=poutin=- out=- sw=1 port=1 vlan=1 src=00000000 dst=00000000 proto=1 sport=1 dport=1",
         "ev=1 do=oth in=- out=", // 4 before 5
     ];
     for bad in bad {
@@ -258,10 +258,50 @@ fn malformed_lines() {
     }
 }
 
+/// `vlan` is 0 to 4095, or `*` in a match, and stands between `port` and `src`.
+#[test]
+fn vlans() {
+    let lines = |change: &dyn Fn(&str) -> String| {
+        let (matching, packet) = (change(ANY), change(PACKET));
+        [
+            ("add", format!("sw=1 prio=1 {matching} act=drop")),
+            ("dels", format!("sw=1 prio=1 {matching}")),
+            ("deln", format!("sw=1 {matching}")),
+            ("pkt", format!("sw=1 {packet}")),
+            ("pout", format!("sw=1 {packet}")),
+        ]
+    };
+    let numbers = |change: &dyn Fn(&str) -> String| {
+        let tables = format!("sw=1 prio=1 {} act=drop\n", change(ANY));
+        let numbers = lines(change).map(|line| trace_refusal(&plain_trace(&[line])).0);
+        (numbers, tables_refusal(&tables).0)
+    };
+    let with = |value: &'static str| {
+        move |items: &str| {
+            let (before, rest) = items.split_once(" vlan=").unwrap();
+            format!("{before} vlan={value}{}", &rest[1..])
+        }
+    };
+    for good in ["0", "9", "10", "4095"] {
+        assert_eq!(numbers(&with(good)), ([0; 5], 0), "{good}");
+    }
+    assert_eq!(numbers(&with("*")), ([0, 0, 0, 4, 4], 0));
+    for bad in ["", "00", "01", "04095", "4096", "9999", "65535", "65536", "-1", "**", "x", "0x1"] {
+        assert_eq!(numbers(&with(bad)), ([4; 5], 14), "{bad}");
+    }
+    assert_eq!(numbers(&|items| items.replace(" vlan=*", "").replace(" vlan=1", "")), ([4; 5], 14));
+    let behind_src = |items: &str| {
+        let mut items: Vec<&str> = items.split(' ').collect();
+        items.swap(1, 2);
+        items.join(" ")
+    };
+    assert_eq!(numbers(&behind_src), ([4; 5], 14));
+}
+
 #[test]
 fn every_word_is_read() {
     let entry = format!("sw=15 prio=65535 {ANY} act=ctl");
-    let packet = "sw=0 port=65535 src=ffffffff dst=00000000 proto=255 sport=0 dport=1".to_owned();
+    let packet = "sw=0 port=65535 vlan=4095 src=ffffffff dst=00000000 proto=255 sport=0 dport=1".to_owned();
     let trace = plain_trace(&[
         ("pkt", packet.clone()),
         ("pout", packet),
@@ -280,7 +320,7 @@ fn every_word_is_read() {
 
 #[test]
 fn both_words_of_a_packet() {
-    let packet = Packet { port: 1, src: 0, dst: 0, proto: 1, sport: 1, dport: 1 };
+    let packet = Packet { port: 1, vlan: 1, src: 0, dst: 0, proto: 1, sport: 1, dport: 1 };
     for (word, origin) in [("pkt", Origin::Received), ("pout", Origin::SentOut)] {
         let operation = TableOperation::Packet(origin, packet);
         let trace = plain_trace(&[(word, format!("sw=7 {PACKET}"))]);
@@ -431,6 +471,23 @@ fn normal_form() {
     let short = normalise(typed.as_bytes(), &mut out[..typed.len() - 1]).unwrap_err();
     assert_eq!((short.number, short.place), (32, typed.len()));
 
+    // `vlan` comes behind `port` and before `src`, `*` before numbers.
+    let line = |items: &str| format!("sw=2 prio=7 {items} dst=00000000/0 proto=* sport=* dport=* act=drop\n");
+    let rising = [
+        "port=* vlan=* src=ffffffff/32",
+        "port=* vlan=0 src=ffffffff/32",
+        "port=* vlan=9 src=00000000/0",
+        "port=* vlan=10 src=00000000/0",
+        "port=* vlan=4095 src=00000000/0",
+        "port=0 vlan=* src=00000000/0",
+        "port=0 vlan=4095 src=00000000/0",
+        "port=1 vlan=0 src=00000000/0",
+    ];
+    let typed: String = rising.iter().rev().map(|items| line(items)).collect();
+    let mut out = vec![9; typed.len()];
+    assert_eq!(normalise(typed.as_bytes(), &mut out), Ok(typed.len()));
+    assert_eq!(out, rising.map(line).concat().into_bytes());
+
     let twice = format!("{a}{b}{d}{b}{a}");
     assert_eq!(tables_refusal(&twice), (16, 3, b.trim_end().to_owned()));
     // 14 and 15 of all lines before 16.
@@ -445,7 +502,7 @@ fn normal_form() {
 fn each_operation_replayed() {
     let dst = |value: &str| ANY.replacen("dst=00000000/0", &format!("dst={value}"), 1);
     let (wide, narrow) = (dst("0a000000/8"), dst("0a010000/16"));
-    let packet = "sw=1 port=1 src=00000000 dst=0a010203 proto=1 sport=1 dport=1".to_owned();
+    let packet = "sw=1 port=1 vlan=1 src=00000000 dst=0a010203 proto=1 sport=1 dport=1".to_owned();
     let trace = plain_trace(&[
         ("pkt", packet.clone()),
         ("pout", packet.clone()),
@@ -515,10 +572,10 @@ fn refusals_of_replay_in_their_order() {
 #[test]
 fn the_most_that_is_written() {
     let line = |sw: usize, port: usize| {
-        format!("sw={sw} prio=65535 port={port} src=ffffff00/30 dst=ffffff00/30 proto=255 sport=65535 dport=65535 act=p65535")
+        format!("sw={sw} prio=65535 port={port} vlan=4095 src=ffffff00/30 dst=ffffff00/30 proto=255 sport=65535 dport=65535 act=p65535")
     };
     let tables: String = (0..256).map(|i| line(15, 65_000 + i) + "\n").collect();
     let writes: Vec<(&str, String)> = (0..256).map(|i| ("add", line(14, 65_000 + i))).collect();
     let (end, answers) = replayed(&plain_trace(&writes), &tables, None).unwrap();
-    assert_eq!((end.len(), end.lines().count(), answers.len()), (53_760, 512, 0));
+    assert_eq!((end.len(), end.lines().count(), answers.len()), (58_880, 512, 0));
 }

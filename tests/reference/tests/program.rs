@@ -49,7 +49,7 @@ fn replay() {
         std::fs::write(&path, bytes).unwrap();
         path.into_os_string().into_string().unwrap()
     };
-    let packet = "sw=1 port=1 src=00000000 dst=00000000 proto=1 sport=1 dport=1";
+    let packet = "sw=1 port=1 vlan=1 src=00000000 dst=00000000 proto=1 sport=1 dport=1";
     let trace =
         write("trace", format!("ev=0 do=oth in=- out=1\nev=1 do=pkt in=1 out=- {packet}\n").as_bytes());
     let tables = write("tables", b"");

@@ -23,7 +23,7 @@ fn entry(matching: Match, priority: u16, port: u16) -> Entry {
 }
 
 fn packet(dst: u32) -> crate::flow::Packet {
-    crate::flow::Packet { port: 1, src: 0, dst, proto: 6, sport: 4000, dport: 80 }
+    crate::flow::Packet { port: 1, vlan: 1, src: 0, dst, proto: 6, sport: 4000, dport: 80 }
 }
 
 /// A packet received, and the same sent out.
@@ -169,6 +169,7 @@ fn meet(a: &Match, b: &Match) -> Option<(crate::flow::Packet, Match)> {
     let longer = |p: Prefix, q: Prefix| if p.len < q.len { q } else { p };
     let meet = Match {
         port: a.port.or(b.port),
+        vlan: a.vlan.or(b.vlan),
         src: longer(a.src, b.src),
         dst: longer(a.dst, b.dst),
         proto: a.proto.or(b.proto),
@@ -177,6 +178,7 @@ fn meet(a: &Match, b: &Match) -> Option<(crate::flow::Packet, Match)> {
     };
     let packet = crate::flow::Packet {
         port: meet.port.unwrap_or(9),
+        vlan: meet.vlan.unwrap_or(9),
         src: meet.src.value,
         dst: meet.dst.value,
         proto: meet.proto.unwrap_or(9),
@@ -186,7 +188,7 @@ fn meet(a: &Match, b: &Match) -> Option<(crate::flow::Packet, Match)> {
     Some((packet, meet))
 }
 
-/// Random pairs over all six fields, on all tables of at most two entries with the matches of the
+/// Random pairs over all seven fields, on all tables of at most two entries with the matches of the
 /// pair, their meet and a packet in it.
 #[test]
 fn random_pairs() {

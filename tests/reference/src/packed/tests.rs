@@ -16,6 +16,7 @@ pub(crate) fn random_match(random: &mut Random) -> Match {
         src: prefix(),
         dst: prefix(),
         port: random.pick(&[None, None, None, Some(0), Some(65_535)]),
+        vlan: random.pick(&[None, None, None, Some(0), Some(4095)]),
         proto: random.pick(&[None, None, None, Some(0), Some(255)]),
         sport: random.pick(&[None, None, None, Some(0)]),
         dport: random.pick(&[None, None, None, Some(80)]),
@@ -26,12 +27,13 @@ pub(crate) fn random_match(random: &mut Random) -> Match {
 fn neighbour(random: &mut Random, matching: &Match) -> Match {
     let other = random_match(random);
     let mut near = *matching;
-    match random.below(6) {
+    match random.below(7) {
         0 => near.port = other.port,
-        1 => near.src = other.src,
-        2 => near.dst = other.dst,
-        3 => near.proto = other.proto,
-        4 => near.sport = other.sport,
+        1 => near.vlan = other.vlan,
+        2 => near.src = other.src,
+        3 => near.dst = other.dst,
+        4 => near.proto = other.proto,
+        5 => near.sport = other.sport,
         _ => near.dport = other.dport,
     }
     near
@@ -41,6 +43,7 @@ fn random_packet(random: &mut Random) -> Packet {
     let address = |random: &mut Random| random.pick(&[0, 1, 1 << 30, 1 << 31, u32::MAX]);
     Packet {
         port: random.pick(&[0, 1, 65_535]),
+        vlan: random.pick(&[0, 1, 4095]),
         src: address(random),
         dst: address(random),
         proto: random.pick(&[0, 255]),
@@ -56,13 +59,13 @@ fn as_field_by_field() {
     for _ in 0..200_000 {
         let m = random_match(&mut random);
         let n = if random.one_in(2) { neighbour(&mut random, &m) } else { random_match(&mut random) };
-        let (a, b) = (Bits::of(&m), Bits::of(&n));
+        let (a, b) = (Row::of_match(m), Row::of_match(n));
         assert_eq!(a.matching(), m);
         assert_eq!(a == b, m == n);
         assert_eq!(a.overlaps(&b), m.overlaps(&n), "{m:?}\n{n:?}");
         assert_eq!(a.within(&b), m.within(&n), "{m:?}\n{n:?}");
         let packet = random_packet(&mut random);
-        let only = Bits::of(&packet.as_match());
+        let only = Row::of_match(packet.as_match());
         assert_eq!(a.overlaps(&only), m.fits(&packet), "{m:?}\n{packet:?}");
         overlaps += usize::from(a.overlaps(&b));
         within += usize::from(a.within(&b));

@@ -141,7 +141,7 @@ fn token(random: &mut Random, text: &[u8]) -> Vec<u8> {
 
 /// The value of an item replaced by one at a limit, past it, or of a wrong form.
 fn value(random: &mut Random, text: &[u8]) -> Vec<u8> {
-    const VALUES: [&str; 30] = [
+    const VALUES: [&str; 32] = [
         "",
         "0",
         "00",
@@ -153,6 +153,8 @@ fn value(random: &mut Random, text: &[u8]) -> Vec<u8> {
         "33",
         "255",
         "256",
+        "4095",
+        "4096",
         "65535",
         "65536",
         "99999",

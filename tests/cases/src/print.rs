@@ -61,6 +61,6 @@ fn table_items(operation: &TableOperation) -> String {
 }
 
 fn packet_items(packet: &Packet) -> String {
-    let Packet { port, src, dst, proto, sport, dport } = packet;
-    format!("port={port} src={src:08x} dst={dst:08x} proto={proto} sport={sport} dport={dport}")
+    let Packet { port, vlan, src, dst, proto, sport, dport } = packet;
+    format!("port={port} vlan={vlan} src={src:08x} dst={dst:08x} proto={proto} sport={sport} dport={dport}")
 }

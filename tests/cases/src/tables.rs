@@ -23,6 +23,7 @@ pub fn long_entry(n: u16) -> Entry {
     let prefix = Prefix { value: 0xffff_fff0, len: 30 };
     let matching = Match {
         port: Some(60_000 + n),
+        vlan: Some(4_095),
         src: prefix,
         dst: prefix,
         proto: Some(255),
@@ -47,7 +48,7 @@ pub fn sorted() -> Vec<u8> {
 
 /// A packet that every one of [`fitting_entry`] fits.
 pub const FITTING_PACKET: Packet =
-    Packet { port: 65_535, src: 0, dst: 0, proto: 255, sport: 65_535, dport: 65_535 };
+    Packet { port: 65_535, vlan: 4_095, src: 0, dst: 0, proto: 255, sport: 65_535, dport: 65_535 };
 
 /// The n-th of the entries of one priority that all fit [`FITTING_PACKET`], below 1,089.
 pub fn fitting_entry(n: u16) -> Entry {

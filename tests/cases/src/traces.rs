@@ -146,8 +146,15 @@ pub fn long_checked_adds() -> Vec<u8> {
 
 /// 256 packets, each of which fits the last entry of [`crate::tables::reversed`] in table order and no other.
 pub fn packets_to_the_last(origin: Origin) -> Vec<u8> {
-    let packet =
-        Packet { port: 60_255, src: 0xffff_fff1, dst: 0xffff_fff1, proto: 255, sport: 65_535, dport: 65_535 };
+    let packet = Packet {
+        port: 60_255,
+        vlan: 4_095,
+        src: 0xffff_fff1,
+        dst: 0xffff_fff1,
+        proto: 255,
+        sport: 65_535,
+        dport: 65_535,
+    };
     let look_up = |_| Operation::Table(LONG_SWITCH, TableOperation::Packet(origin, packet));
     trace_text(&apart((0..256).map(look_up)))
 }

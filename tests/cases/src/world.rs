@@ -63,8 +63,10 @@ impl World {
     /// A match.
     pub fn matching(self, random: &mut Random) -> Match {
         let proto = self.exact(random, &[6, 17]);
+        let vlan = if random.one_in(2) { self.exact(random, &[1, 2]) } else { None };
         Match {
             port: self.exact(random, &[1, 2]),
+            vlan: vlan.map(|n| n % 4096),
             src: if self.wide || random.one_in(3) { self.prefix(random) } else { Prefix::ANY },
             dst: self.prefix(random),
             proto: proto.map(|n| u8::try_from(n % 256).expect("below 256")),
@@ -77,6 +79,7 @@ impl World {
     pub fn packet(self, random: &mut Random) -> Packet {
         Packet {
             port: self.number(random, &[1, 2]),
+            vlan: self.number(random, &[1, 2]) % 4096,
             src: self.address(random),
             dst: self.address(random),
             proto: u8::try_from(self.number(random, &[6, 17]) % 256).expect("below 256"),

@@ -121,7 +121,7 @@ fn every_refusal_is_reached() {
 
 /// End tables and answers in one order.
 fn replayed(trace: &[u8], tables: &[u8], order: &[u8]) -> Result<(Vec<u8>, Vec<u8>), u8> {
-    let (mut end, mut answers) = (vec![0; 53_760], vec![0; 7_168]);
+    let (mut end, mut answers) = (vec![0; 58_880], vec![0; 7_168]);
     match replay(trace, tables, order, &mut end, &mut answers) {
         Ok(lengths) => {
             end.truncate(lengths.tables);
@@ -243,7 +243,7 @@ fn worst_cases_replayed() {
         (0..256).map(|event| format!("ev={event} {answer}\n")).collect::<String>().into_bytes()
     };
     let (end, none) = replay(&traces::long_adds());
-    assert_eq!((end.len(), none.len()), (53_760, 0));
+    assert_eq!((end.len(), none.len()), (58_880, 0));
     assert_eq!(replay(&traces::long_checked_adds()), (end, answers("done=yes")));
     let last = String::from_utf8(tables::sorted()).unwrap().replace("act=p65535", "act=p255");
     assert_eq!(replay(&traces::all_racing_modifies()), (last.into_bytes(), Vec::new()));

@@ -18,7 +18,7 @@ use std::str::FromStr;
 
 /// The packet of document 01's worked lines.
 const WORKED: Packet =
-    Packet { port: 1, src: 0x0a00_0001, dst: 0x0a00_0002, proto: 6, sport: 4000, dport: 80 };
+    Packet { port: 1, vlan: 1, src: 0x0a00_0001, dst: 0x0a00_0002, proto: 6, sport: 4000, dport: 80 };
 
 /// The event of a `do` word and its items.
 pub fn event(word: &str, items: &[&str]) -> Result<Event, String> {
@@ -121,6 +121,7 @@ impl<'a> Items<'a> {
         let any = Match::ANY;
         Ok(Match {
             port: self.or("port", any.port, any_or_number)?,
+            vlan: self.or("vlan", any.vlan, any_or_number)?,
             src: self.or("src", any.src, prefix)?,
             dst: self.or("dst", any.dst, prefix)?,
             proto: self.or("proto", any.proto, any_or_number)?,
@@ -132,6 +133,7 @@ impl<'a> Items<'a> {
     fn packet(&mut self) -> Result<Packet, String> {
         Ok(Packet {
             port: self.or("port", WORKED.port, number)?,
+            vlan: self.or("vlan", WORKED.vlan, number)?,
             src: self.or("src", WORKED.src, address)?,
             dst: self.or("dst", WORKED.dst, address)?,
             proto: self.or("proto", WORKED.proto, number)?,
@@ -194,12 +196,12 @@ mod tests {
         for word in ["pkt", "pout"] {
             assert_eq!(
                 line(word, &["sw=2", "in=4"]).unwrap(),
-                format!("ev=7 do={word} in=4 out=- sw=2 port=1 src=0a000001 dst=0a000002 proto=6 sport=4000 dport=80")
+                format!("ev=7 do={word} in=4 out=- sw=2 port=1 vlan=1 src=0a000001 dst=0a000002 proto=6 sport=4000 dport=80")
             );
         }
         assert_eq!(
             line("add", &["sw=1", "prio=10", "dst=0a000002/32", "act=p2"]).unwrap(),
-            "ev=7 do=add in=- out=- sw=1 prio=10 port=* src=00000000/0 dst=0a000002/32 proto=* sport=* dport=* act=p2"
+            "ev=7 do=add in=- out=- sw=1 prio=10 port=* vlan=* src=00000000/0 dst=0a000002/32 proto=* sport=* dport=* act=p2"
         );
     }
 

@@ -309,7 +309,8 @@ mod tests {
 
     #[test]
     fn an_entry() {
-        let line = "sw=1 prio=0 port=* src=00000000/0 dst=00000000/0 proto=* sport=* dport=* act=drop\\n";
+        let line =
+            "sw=1 prio=0 port=* vlan=* src=00000000/0 dst=00000000/0 proto=* sport=* dport=* act=drop\\n";
         assert_eq!(file("sw=1 prio=0 act=drop"), line);
     }
 

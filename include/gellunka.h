@@ -33,8 +33,8 @@ extern "C" {
  * crates/page_meaning/proofs/Theorems.antt. */
 #define GELLUNKA_LIST_ROOM 65280    /* of gellunka_list_races */
 #define GELLUNKA_PAGE_ROOM 1991284  /* of gellunka_page */
-#define GELLUNKA_NORMAL_ROOM 26880  /* of gellunka_normalise */
-#define GELLUNKA_TABLES_ROOM 53760  /* of gellunka_replay, the end tables */
+#define GELLUNKA_NORMAL_ROOM 29440  /* of gellunka_normalise */
+#define GELLUNKA_TABLES_ROOM 58880  /* of gellunka_replay, the end tables */
 #define GELLUNKA_ANSWERS_ROOM 7168  /* of gellunka_replay, the answers */
 
 /*

@@ -15,11 +15,11 @@
 //!
 //! ```
 //! let trace = b"\
-//! ev=0 do=pkt in=- out=1 sw=1 port=1 src=0a000001 dst=0a000002 proto=6 sport=4000 dport=80
+//! ev=0 do=pkt in=- out=1 sw=1 port=1 vlan=1 src=0a000001 dst=0a000002 proto=6 sport=4000 dport=80
 //! ev=1 do=oth in=1 out=2,3,4
-//! ev=2 do=add in=2 out=- sw=1 prio=10 port=* src=00000000/0 dst=0a000002/32 proto=* sport=* dport=* act=p2
-//! ev=3 do=add in=3 out=- sw=2 prio=10 port=* src=00000000/0 dst=0a000002/32 proto=* sport=* dport=* act=p3
-//! ev=4 do=pkt in=4 out=- sw=2 port=1 src=0a000001 dst=0a000002 proto=6 sport=4000 dport=80
+//! ev=2 do=add in=2 out=- sw=1 prio=10 port=* vlan=* src=00000000/0 dst=0a000002/32 proto=* sport=* dport=* act=p2
+//! ev=3 do=add in=3 out=- sw=2 prio=10 port=* vlan=* src=00000000/0 dst=0a000002/32 proto=* sport=* dport=* act=p3
+//! ev=4 do=pkt in=4 out=- sw=2 port=1 vlan=1 src=0a000001 dst=0a000002 proto=6 sport=4000 dport=80
 //! ";
 //! let mut list = [0; gellunka::LIST_ROOM];
 //! let counts = gellunka::list_races(trace, &mut list)?;
@@ -55,9 +55,9 @@ pub const LIST_ROOM: usize = 65_280;
 /// A buffer of this length is never too short for [`page`].
 pub const PAGE_ROOM: usize = 1_991_284;
 /// A buffer of this length is never too short for [`normalise`].
-pub const NORMAL_ROOM: usize = 26_880;
+pub const NORMAL_ROOM: usize = 29_440;
 /// A buffer of this length is never too short for the end tables of [`replay`].
-pub const TABLES_ROOM: usize = 53_760;
+pub const TABLES_ROOM: usize = 58_880;
 /// A buffer of this length is never too short for the answers of [`replay`].
 pub const ANSWERS_ROOM: usize = 7_168;
 

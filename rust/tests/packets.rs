@@ -6,9 +6,9 @@ use gellunka::{list_races, page, replay, Counts};
 fn trace(word: &str) -> String {
     format!(
         "\
-ev=0 do=add in=- out=- sw=1 prio=10 port=* src=00000000/0 dst=0a000002/32 proto=* sport=* dport=* act=p2
+ev=0 do=add in=- out=- sw=1 prio=10 port=* vlan=* src=00000000/0 dst=0a000002/32 proto=* sport=* dport=* act=p2
 ev=1 do=bar in=- out=- sw=1
-ev=2 do={word} in=- out=- sw=1 port=1 src=0a000001 dst=0a000002 proto=6 sport=4000 dport=80
+ev=2 do={word} in=- out=- sw=1 port=1 vlan=1 src=0a000001 dst=0a000002 proto=6 sport=4000 dport=80
 "
     )
 }

@@ -9,25 +9,25 @@
 #include <string.h>
 
 static const char TRACE[] =
-    "ev=0 do=pkt in=- out=1 sw=1 port=1 src=0a000001 dst=0a000002 proto=6 sport=4000 dport=80\n"
+    "ev=0 do=pkt in=- out=1 sw=1 port=1 vlan=1 src=0a000001 dst=0a000002 proto=6 sport=4000 dport=80\n"
     "ev=1 do=oth in=1 out=2,3,4\n"
-    "ev=2 do=add in=2 out=- sw=1 prio=10 port=* src=00000000/0 dst=0a000002/32 proto=* sport=* dport=* act=p2\n"
-    "ev=3 do=add in=3 out=- sw=2 prio=10 port=* src=00000000/0 dst=0a000002/32 proto=* sport=* dport=* act=p3\n"
-    "ev=4 do=pkt in=4 out=- sw=2 port=1 src=0a000001 dst=0a000002 proto=6 sport=4000 dport=80\n";
+    "ev=2 do=add in=2 out=- sw=1 prio=10 port=* vlan=* src=00000000/0 dst=0a000002/32 proto=* sport=* dport=* act=p2\n"
+    "ev=3 do=add in=3 out=- sw=2 prio=10 port=* vlan=* src=00000000/0 dst=0a000002/32 proto=* sport=* dport=* act=p3\n"
+    "ev=4 do=pkt in=4 out=- sw=2 port=1 vlan=1 src=0a000001 dst=0a000002 proto=6 sport=4000 dport=80\n";
 
 static const char TABLES[] =
-    "sw=2 prio=10 port=* src=00000000/0 dst=0a000002/32 proto=* sport=* dport=* act=p3\n"
-    "sw=1 prio=10 port=* src=00000000/0 dst=0a000002/32 proto=* sport=* dport=* act=p2\n";
+    "sw=2 prio=10 port=* vlan=* src=00000000/0 dst=0a000002/32 proto=* sport=* dport=* act=p3\n"
+    "sw=1 prio=10 port=* vlan=* src=00000000/0 dst=0a000002/32 proto=* sport=* dport=* act=p2\n";
 
 static const char ANSWERS[] = "ev=0 hit=-\nev=4 hit=10,1,p3\n";
 
 static const char BAD[] = "sw=1\nsw=2\n";
 
 /* A barrier between a rule and a packet of this word. */
-#define RULE_BARRIER_PACKET(word)                                                                                \
-    "ev=0 do=add in=- out=- sw=1 prio=10 port=* src=00000000/0 dst=0a000002/32 proto=* sport=* dport=* act=p2\n" \
-    "ev=1 do=bar in=- out=- sw=1\n"                                                                              \
-    "ev=2 do=" word " in=- out=- sw=1 port=1 src=0a000001 dst=0a000002 proto=6 sport=4000 dport=80\n"
+#define RULE_BARRIER_PACKET(word)                                                                                       \
+    "ev=0 do=add in=- out=- sw=1 prio=10 port=* vlan=* src=00000000/0 dst=0a000002/32 proto=* sport=* dport=* act=p2\n" \
+    "ev=1 do=bar in=- out=- sw=1\n"                                                                                     \
+    "ev=2 do=" word " in=- out=- sw=1 port=1 vlan=1 src=0a000001 dst=0a000002 proto=6 sport=4000 dport=80\n"
 
 static int failures = 0;
 

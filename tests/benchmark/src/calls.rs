@@ -50,7 +50,7 @@ fn one_text<'a, T: 'a, U: 'a>(
 fn replay<'a>(trace: &'a [u8], tables: &'a [u8]) -> [Call<'a>; 2] {
     let events = trace.iter().filter(|&&byte| byte == b'\n').count();
     let [order, same] = [(); 2].map(|()| reference::replay::recorded_order(events));
-    let [mut end, mut their_end] = [(); 2].map(|()| vec![0; 53_760]);
+    let [mut end, mut their_end] = [(); 2].map(|()| vec![0; 58_880]);
     let [mut answers, mut their_answers] = [(); 2].map(|()| vec![0; 7_168]);
     [
         Box::new(move || used(gellunka::replay(black_box(trace), tables, &order, &mut end, &mut answers))),

@@ -142,6 +142,28 @@ pub fn replay(trace: &[u8], tables: &[u8], order: &[u8], rooms: [usize; 2]) -> A
     })
 }
 
+/// A trace of events on one switch that nothing orders, each a word and its items.
+pub fn trace(events: &[(&str, String)]) -> Vec<u8> {
+    let line = |(number, (word, items)): (usize, &(&str, String))| {
+        format!("ev={number} do={word} in=- out=- sw=1 {items}\n")
+    };
+    events.iter().enumerate().map(line).collect::<String>().into_bytes()
+}
+
+/// Of the pairs of such events those are listed by both of which this holds.
+pub fn assert_listed(events: &[(&str, String)], races: impl Fn(usize, usize) -> bool) {
+    let trace = trace(events);
+    let (counts, mut pairs) = list(&trace, 65_280).expect("a valid trace");
+    pairs.truncate(2 * counts.listed);
+    let later = |low: usize| (low + 1..events.len()).map(move |high| (low, high));
+    let expected: Vec<u8> = (0..events.len())
+        .flat_map(later)
+        .filter(|&(low, high)| races(low, high))
+        .flat_map(|(low, high)| [low as u8, high as u8])
+        .collect();
+    assert_eq!(pairs, expected, "{}", String::from_utf8_lossy(&trace));
+}
+
 /// A buffer that is lent to a call, between bytes that the call must not touch.
 struct Buffer {
     all: Vec<u8>,

@@ -16,7 +16,7 @@ use std::collections::{BTreeMap, BTreeSet};
 const LIST_ROOM: usize = 65_280;
 /// Room for the page of any seven events.
 const SHORT_PAGE: usize = 61 * 25;
-const ROOMS: [usize; 2] = [53_760, 7_168];
+const ROOMS: [usize; 2] = [58_880, 7_168];
 
 /// How often each refusal was met; 0 stands for none.
 #[derive(Default)]

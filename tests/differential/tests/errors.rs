@@ -11,7 +11,8 @@ use std::process::{Command, Output, Stdio};
 use std::time::Duration;
 
 const TRACE: &[u8] = b"ev=0 do=bar in=- out=- sw=1\n";
-const TABLES: &[u8] = b"sw=1 prio=1 port=* src=00000000/0 dst=00000000/0 proto=* sport=* dport=* act=drop\n";
+const TABLES: &[u8] =
+    b"sw=1 prio=1 port=* vlan=* src=00000000/0 dst=00000000/0 proto=* sport=* dport=* act=drop\n";
 
 /// Nothing printed; on standard error a line that begins so.
 fn says(output: &Output, begins: &str) {

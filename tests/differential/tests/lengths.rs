@@ -1,7 +1,7 @@
 //! Prefixes of all 33 lengths in `src` and in `dst`: which pass, what fits them, which overlap and which lie within one
 //! another. Library and reference agree, and both do what the first bits of the addresses say.
 
-use differential::{list, normalise, replay};
+use differential::{assert_listed, list, normalise, replay, trace};
 use reference::replay::recorded_order;
 
 const FIELDS: [&str; 2] = ["src", "dst"];
@@ -28,34 +28,12 @@ fn near(address: u32, shared: usize) -> [u32; 2] {
 
 fn matching(field: &str, prefix: &str) -> String {
     let [src, dst] = FIELDS.map(|other| if other == field { prefix } else { "00000000/0" });
-    format!("port=* src={src} dst={dst} proto=* sport=* dport=*")
+    format!("port=* vlan=* src={src} dst={dst} proto=* sport=* dport=*")
 }
 
 fn packet(field: &str, address: u32) -> String {
     let [src, dst] = FIELDS.map(|other| if other == field { address } else { 0x0102_0304 });
-    format!("port=1 src={src:08x} dst={dst:08x} proto=6 sport=4000 dport=80")
-}
-
-/// A trace of events that nothing orders, each a word and its items.
-fn trace(events: &[(&str, String)]) -> Vec<u8> {
-    let line = |(number, (word, items)): (usize, &(&str, String))| {
-        format!("ev={number} do={word} in=- out=- sw=1 {items}\n")
-    };
-    events.iter().enumerate().map(line).collect::<String>().into_bytes()
-}
-
-/// The pairs of a trace that are listed are those of which this holds.
-fn assert_listed(events: &[(&str, String)], races: impl Fn(usize, usize) -> bool) {
-    let trace = trace(events);
-    let (counts, mut pairs) = list(&trace, 65_280).expect("a valid trace");
-    pairs.truncate(2 * counts.listed);
-    let later = |low: usize| (low + 1..events.len()).map(move |high| (low, high));
-    let expected: Vec<u8> = (0..events.len())
-        .flat_map(later)
-        .filter(|&(low, high)| races(low, high))
-        .flat_map(|(low, high)| [low as u8, high as u8])
-        .collect();
-    assert_eq!(pairs, expected, "{}", String::from_utf8_lossy(&trace));
+    format!("port=1 vlan=1 src={src:08x} dst={dst:08x} proto=6 sport=4000 dport=80")
 }
 
 /// With each field, address, number of first bits that another address shares with it, and such an address.
@@ -98,7 +76,7 @@ fn which_prefixes_a_packet_fits() {
         };
         let events: Vec<_> = LENGTHS.map(rule).chain([("pkt", packet(field, other))]).collect();
         assert_listed(&events, |length, event| event == 33 && length <= shared);
-        let written = replay(&trace(&events), b"", &recorded_order(34), [53_760, 64]).expect("all valid");
+        let written = replay(&trace(&events), b"", &recorded_order(34), [58_880, 64]).expect("all valid");
         assert_eq!(written.answers, format!("ev=33 hit={shared},1,p{shared}\n").into_bytes());
     });
 }

@@ -58,11 +58,11 @@ fn single_bytes_and_pairs_of_bytes() {
     assert!(list(b"", 0).is_ok() && normalise(b"", 0).is_ok() && replay(b"", b"", b"", [0, 0]).is_ok());
 }
 
-const MATCHING: &str = "port=* src=0a000000/8 dst=0a010000/16 proto=6 sport=* dport=80";
+const MATCHING: &str = "port=* vlan=4095 src=0a000000/8 dst=0a010000/16 proto=6 sport=* dport=80";
 
 /// Each word, and what may stand behind it.
 fn kinds_of_line() -> [(&'static str, String); 11] {
-    let packet = "sw=1 port=1 src=0a000001 dst=ffffffff proto=255 sport=0 dport=65535";
+    let packet = "sw=1 port=1 vlan=4095 src=0a000001 dst=ffffffff proto=255 sport=0 dport=65535";
     [
         ("oth", "in=65535 out=1,2,3,4".to_owned()),
         ("bar", "in=- out=7 sw=15".to_owned()),
@@ -152,17 +152,31 @@ fn worst_cases() {
             let _ = page(trace, room);
         }
         for tables in [&b""[..], &tables::reversed(), &tables::sorted()] {
-            let written = replay(trace, tables, &recorded_order(256), [53_760, 7_168]).expect("all valid");
+            let written = replay(trace, tables, &recorded_order(256), [58_880, 7_168]).expect("all valid");
             for room in lengths_around(written.tables.len()) {
                 let _ = replay(trace, tables, &recorded_order(256), [room, 7_168]);
             }
             let mut backward = recorded_order(256);
             backward.reverse();
-            let _ = replay(trace, tables, &backward, [53_760, 7_168]);
+            let _ = replay(trace, tables, &backward, [58_880, 7_168]);
         }
     }
     let normal = normalise(&tables::reversed(), 65_535).expect("valid tables");
     assert_eq!(normal, tables::sorted());
+}
+
+/// 256 of the longest lines fill the room of a normal text, 512 that of end tables.
+#[test]
+fn the_longest_lines() {
+    use gellunka::{NORMAL_ROOM, TABLES_ROOM};
+    let (trace, tables, order) = (traces::long_adds(), tables::reversed(), recorded_order(256));
+    assert!(tables.split_inclusive(|&byte| byte == b'\n').all(|line| line.len() == 115));
+    assert_eq!((256 * 115, 512 * 115), (NORMAL_ROOM, TABLES_ROOM));
+    assert_eq!(normalise(&tables, NORMAL_ROOM).map(|normal| normal.len()), Ok(NORMAL_ROOM));
+    assert_eq!(refused(normalise(&tables, NORMAL_ROOM - 1)), (32, NORMAL_ROOM));
+    let written = replay(&trace, &tables, &order, [TABLES_ROOM, 0]);
+    assert_eq!(written.map(|written| written.tables.len()), Ok(TABLES_ROOM));
+    assert_eq!(refused(replay(&trace, &tables, &order, [TABLES_ROOM - 1, 0])), (32, TABLES_ROOM));
 }
 
 /// The four last lines of a page.
@@ -188,10 +202,12 @@ fn the_shortest_and_the_longest_page() {
 /// Every two words whose events can race, behind some other events.
 #[test]
 fn every_two_words_on_a_page() {
-    let any = "port=* src=00000000/0 dst=00000000/0 proto=* sport=* dport=*";
+    let any = "port=* vlan=* src=00000000/0 dst=00000000/0 proto=* sport=* dport=*";
     let words = ["pkt", "pout", "add", "addc", "mods", "modn", "dels", "deln"];
     let items = |number: usize, prio: u16| match number % 8 {
-        0 | 1 => "port=65535 src=ffffffff dst=ffffffff proto=255 sport=65535 dport=65535".to_owned(),
+        0 | 1 => {
+            "port=65535 vlan=4095 src=ffffffff dst=ffffffff proto=255 sport=65535 dport=65535".to_owned()
+        }
         6 => format!("prio={prio} {any}"),
         7 => any.to_owned(),
         _ => format!("prio={prio} {any} act=p{number}"),
@@ -240,7 +256,7 @@ fn many_entries_that_fit() {
 fn faults_of_one_line() {
     let line = |number: usize, last: &str, length: u8, end: &str| {
         format!(
-            "ev={number} do=deln in=- out=- sw=1 port=* src=0a00000{last}/{length} dst=00000000/0 proto=* sport=* dport=*{end}\n"
+            "ev={number} do=deln in=- out=- sw=1 port=* vlan=* src=0a00000{last}/{length} dst=00000000/0 proto=* sport=* dport=*{end}\n"
         )
     };
     let refusal = |text: String| refused(list(text.as_bytes(), 0));

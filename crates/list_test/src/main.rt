@@ -42,6 +42,8 @@ fn rehearsals() {
     run(b"overlap_repaired");
     run(b"aisle");
     run(b"aisle_repaired");
+    run(b"shared_cable");
+    run(b"shared_cable_repaired");
     run(b"sent_out_as_pkt");
     run(b"sent_out");
 }

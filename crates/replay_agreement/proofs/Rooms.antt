@@ -5,7 +5,7 @@ use mathlib.Core.Path.{_≡_, refl, ap, subst}
 use mathlib.Core.Bool.{Bool, true, false, cond}
 use mathlib.Core.Logic.{inr}
 use mathlib.Core.Option.{Option, none, some}
-use mathlib.Core.List.{List, [], _∷_, _++_, List·Memᴰ, List·Memᴰ·head, List·Memᴰ·tail, List·Memᴰ·not-nil}
+use mathlib.Core.List.{List, [], _∷_, _++_, List·Memᴰ, List·Memᴰ·not-nil}
 use Prim.Native.Nat.{ℕ, zero, suc, _+_, _*_, _≤_, _<_}
 use native.Mathlib.Decide.{decLt}
 use native.Mathlib.Omega.{arith}
@@ -16,8 +16,7 @@ use Rattle.text_numbers.specs.Print.{decimal, printNumber, hexDigit, hexadecima
 use Rattle.text_numbers.proofs.Print.{print-short}
 use Rattle.text_fields.specs.Types.{Exact, Prefix, Match}
 use Rattle.text_fields.specs.Print.{printExact, printPrefix, printLast, printFields, printMatch, printAction, printKey, printEntry}
-use Rattle.text_put_fields.proofs.Lengths.{action-most, entry-most}
-use Rattle.text_lines.specs.Lines.{unlines}
+use Rattle.text_put_fields.proofs.Lengths.{action-most}
 use Rattle.flow_table.specs.FlowTable.{TableInRange, entry}
 use Rattle.order_meaning.specs.Tables.{endTables, answers}
 use Rattle.rows.specs.Rows.{row, tableOf, tablesOf}
@@ -31,6 +30,7 @@ use Rattle.trace_text.proofs.Accepted.{trace-accepted-iff, events-in-range}
 use Rattle.tables_text.specs.TableText.{printRow, RowInRange, readTables}
 use Rattle.tables_text.proofs.Accepted.{accepted-sorted, accepted-range, accepted-length}
 use Rattle.tables_normal.specs.Normal.{normalText, tablesText}
+use Rattle.tables_normal.proofs.Writing.{normal-most}
 use Rattle.order_check.specs.Schedule.{checkOrder}
 use Rattle.order_check.proofs.Accepted.{order-accepted-iff}
 use Rattle.order_rows.specs.Runs.{operationAt, givenOr}
@@ -62,16 +62,6 @@ row-longest = refl
 pub answer-longest : printAnswer 255 (Answer.Hit 65535 511 (Action.Port 65535)) ≡ bytes "ev=255 hit=65535,511,p65535\n"
 unfolding printAnswer printItem printAction printNumber decimal
 answer-longest = refl
-
--- ---- lines of tables
-row-most : (r : Row) → RowInRange r → length (printRow r) ≤ 114
-unfolding printRow
-row-most r h = let w = h .switch in simp length-append (omega (arith, print-short 1 (r .switch) (omega arith), entry-most (r .entry) (h .entry)))
-
-normal-most : (rs : List Row) → ((r : Row) → List·Memᴰ r rs → RowInRange r) → length (normalText rs) ≤ 115 * length rs
-unfolding normalText unlines
-normal-most [] h = omega arith
-normal-most (r ∷ rs) h = simp length-append (omega (arith, row-most r (h r (List·Memᴰ·head refl)), normal-most rs (λ x m. h x (List·Memᴰ·tail m))))
 
 -- the normal text of an accepted table text
 pub normal-room : (t : List ℕ) (rs : List Row) → readTables t ≡ inr rs → length (normalText rs) ≤ 29440

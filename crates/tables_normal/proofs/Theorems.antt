@@ -24,7 +24,7 @@ use Rattle.tables_text.specs.TableText.{printRow, readTables, HoldSame}
 use Rattle.tables_normal.specs.Normal.{normalText, normalised}
 use Rattle.tables_text.proofs.RowFormat.{row-format}
 use Rattle.tables_text.proofs.Lines.{printed}
-use Rattle.tables_normal.proofs.Writing.{normal-length}
+use Rattle.tables_normal.proofs.Writing.{normal-most}
 use Rattle.tables_text.proofs.Accepted.{accepting, accepted-holds, accepted-sorted, accepted-range, accepted-length}
 
 -- ---- the normal text is accepted
@@ -80,7 +80,7 @@ module _ (s : List ℕ) (rs : List Row) (e : readTables s ≡ inr rs) where
   pub normal-accepted : readTables (normalText rs) ≡ inr rs
   normal-accepted = accepting (normalText rs) rs (record {
     within = record {
-      bytes = omega (arith, normal-length rs, accepted-length s rs e);
+      bytes = omega (arith, normal-most rs (accepted-range s rs e), accepted-length s rs e);
       ended = normal-ends;
       few = rw (normal-lines, length-map) (accepted-length s rs e);
     };

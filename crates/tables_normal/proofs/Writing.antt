@@ -1,6 +1,6 @@
 -- Laws of rows as text.
 use Prim.Native.Nat.{ℕ, zero, suc, _+_, _-_, _*_, _≤_, _<_}
-use mathlib.Core.List.{List, [], _∷_, _++_, append-assoc, append-nil}
+use mathlib.Core.List.{List, [], _∷_, _++_, append-assoc, append-nil, List·Memᴰ, List·Memᴰ·head, List·Memᴰ·tail}
 use mathlib.Core.Path.{_≡_, refl, sym, _∙_, ap}
 use native.Mathlib.Decide.{decLt}
 use native.Mathlib.Omega.{arith}
@@ -13,11 +13,11 @@ use Rattle.text_numbers.proofs.Writing.{put-none, put-then}
 use Rattle.text_lines.specs.Lines.{unlines}
 use Rattle.basics.proofs.Arrays.{passed}
 use Rattle.tables_normal.specs.Types.{Row}
-use Rattle.tables_text.specs.TableText.{printRow}
+use Rattle.tables_text.specs.TableText.{printRow, RowInRange}
 use Rattle.tables_normal.specs.Normal.{normalText}
 use Rattle.tables_normal.specs.Inner.{PlaceIn}
-use Rattle.text_numbers.proofs.Print.{print-length}
-use Rattle.text_put_fields.proofs.Lengths.{entry-length}
+use Rattle.text_numbers.proofs.Print.{print-length, print-short}
+use Rattle.text_put_fields.proofs.Lengths.{entry-length, entry-most}
 
 -- ---- a text put into the rest of a buffer
 sets-cons : (x : ℕ) (xs : List ℕ) (at : ℕ) (w : List ℕ) → sets (x ∷ xs) (suc at) w ≡ x ∷ sets xs at w
@@ -56,7 +56,7 @@ put-from {w} {xs} {rest} {at} {from} p q =
     }
 
 -- ---- the text of rows
-row-length : (r : Row) → length (printRow r) ≤ 250
+row-length : (r : Row) → length (printRow r) ≤ 276
 unfolding printRow
 row-length r = simp length-append (omega (arith, print-length (r .switch), entry-length (r .entry)))
 
@@ -65,10 +65,15 @@ unfolding normalText unlines
 normal-snoc [] r = refl
 normal-snoc (x ∷ rs) r = ap (λ (l : List ℕ). printRow x ++ 10 ∷ l) (normal-snoc rs r) ∙ sym (append-assoc (printRow x) (10 ∷ normalText rs) (printRow r ++ bytes "\n"))
 
-pub normal-length : (rs : List Row) → length (normalText rs) ≤ 277 * length rs
+-- in range a line has at most 115 bytes, and there is such a line (replay_agreement `row-longest`)
+row-most : (r : Row) → RowInRange r → length (printRow r) ≤ 114
+unfolding printRow
+row-most r h = let w = h .switch in simp length-append (omega (arith, print-short 1 (r .switch) (omega arith), entry-most (r .entry) (h .entry)))
+
+pub normal-most : (rs : List Row) → ((r : Row) → List·Memᴰ r rs → RowInRange r) → length (normalText rs) ≤ 115 * length rs
 unfolding normalText unlines
-normal-length [] = omega arith
-normal-length (r ∷ rs) = simp length-append (omega (arith, row-length r, normal-length rs))
+normal-most [] h = omega arith
+normal-most (r ∷ rs) h = simp length-append (omega (arith, row-most r (h r (List·Memᴰ·head refl)), normal-most rs (λ x m. h x (List·Memᴰ·tail m))))
 
 -- ---- the loop over the rows, the first i of the first n written
 pub line-room : (r : Row) (xs : List ℕ) (n : ℕ) (ys : List ℕ) → Put (printRow r ++ bytes "\n") 0 xs n ys → n ≤ 277

@@ -51,7 +51,7 @@ mask-high l i h k =
     ap (λ (q : ℕ). q / 2 ^ i) g ∙ high (2 ^ j - 1) i {lo = 2 ^ i - 2 ^ s} (omega arith)
 
 -- a shorter prefix's mask is a part of a longer one's
-nested : (k l : ℕ) → 32 - k ≤ 32 - l → bitAnd (maskOf k) (maskOf l) ≡ maskOf l
+pub nested : (k l : ℕ) → 32 - k ≤ 32 - l → bitAnd (maskOf k) (maskOf l) ≡ maskOf l
 nested k l h = leaves (maskOf k) l (mask-lt k) ∙ ap (λ (q : ℕ). q * 2 ^ (32 - l)) (mask-high k (32 - l) h (omega arith)) ∙ sym (mask-ones l)
 
 -- of two masks the shorter length's is the one that they share

@@ -1,11 +1,11 @@
 -- Inner: happens-before as it is held, 256 rows of four 64-bit words, each row the set of the events before one.
 use mathlib.Core.Path.{_≡_}
-use mathlib.Core.Bool.{Bool}
+use mathlib.Core.Bool.{Bool, _||_, cond}
 use mathlib.Core.List.{List, [], _∷_}
 use Prim.Native.Nat.{ℕ, _/_, _%_, _^_}
 use lib.Dec.{eqb}
 use lib.ListN.{getD}
-use Rattle.happens_before.specs.Types.{Event}
+use Rattle.happens_before.specs.Types.{Side, Event}
 use Rattle.happens_before.specs.Causality.{before}
 
 -- bit k of the word x is 1
@@ -27,3 +27,7 @@ bit rows i j = member (getD rows j []) i
 -- the rows hold happens-before
 abbrev pub HappensBefore : List Event → List (List ℕ) → Type 0
 HappensBefore es rows = (i j : ℕ) → bit rows i j ≡ before es i j
+
+-- where the search for the direct predecessors of event j begins, by the side of j and whether an earlier event is a barrier
+unfoldable pub searchFrom : Side → Bool → ℕ → ℕ
+searchFrom later barred j = cond (later .takes || (barred || later .barrier)) 0 j

@@ -6,11 +6,11 @@ use trace_events::Trace;
 ghost use mathlib.Core.Path.{_≡_};
 ghost use Prim.Native.Nat.{_≤_};
 ghost use Rattle.trace_events.specs.Events.{eventsOf};
-ghost use Rattle.happens_before.specs.Inner.{bit, HappensBefore};
+ghost use Rattle.happens_before.specs.Inner.{bit, HappensBefore, searchFrom};
 
 // For each event the set of those before it: the union of its direct predecessors and their rows, which are filled already. Past the
 // last event the rows stay empty. Both loops stand here, since an inner call would copy the events at each turn; the two sides
-// tell whether there is a barrier step, and of most pairs that no token passes.
+// tell whether there is a barrier step, and of most pairs that no token passes. `barred`: some event before j is a barrier.
 pub fn happens_before(t: Trace) -> [[u64; 4]; 256]
     requires { ⌜ t .len ≤ 256 ⌝ }
     ensures { λ r. ⌜ HappensBefore (eventsOf t) r ⌝ }
@@ -19,12 +19,14 @@ pub fn happens_before(t: Trace) -> [[u64; 4]; 256]
     let mut rows = [[0u64; 4]; 256];
     let none = Side::none();
     let mut sides = [none; 256];
+    let mut barred = false;
     for j in 0..n {
         let second = t.events[j];
         let later = second.side();
         let taker = second.head;
         let mut set = [0u64; 4];
-        for k in 0..j {
+        let from = search_from(later, barred, j);
+        for k in from..j {
             let side = sides[k];
             if side.barrier_step(later) {
                 let known = rows[k];
@@ -44,8 +46,20 @@ pub fn happens_before(t: Trace) -> [[u64; 4]; 256]
         }
         rows[j] = set;
         sides[j] = later;
+        barred = barred | later.barrier;
     }
     rows
+}
+
+// Where the search for the direct predecessors of event j begins: at j, so that there is none, where it takes in no token and neither
+// it nor an earlier event is a barrier.
+fn search_from(later: Side, barred: bool, j: usize) -> usize
+    ensures { λ r. ⌜ r ≡ searchFrom later barred j ⌝ }
+{
+    if later.takes | (barred | later.barrier) {
+        return 0;
+    }
+    j
 }
 
 // Event i is in the row of event j: it happens before it.

@@ -63,3 +63,7 @@ pub noted-more : {A : Type 0} (f : ℕ → A) (d : A) (l : List A) (k : ℕ) {x 
     → (i : ℕ) → i < k + 1 → getD (set l k x) i d ≡ f i
 noted-more f d l k {x} room e h i m =
     elim (ℕ-discrete i k) [ yes u ↦ rw (u, getD-set-same l k x d room) e | no ne ↦ rw (getD-set-other l k i x d ne) (h i (omega arith)) ]
+
+-- what holds at each i below k, and at k
+pub holds-more : (P : ℕ → Type 0) (k : ℕ) → P k → ((i : ℕ) → i < k → P i) → (i : ℕ) → i < k + 1 → P i
+holds-more P k p h i m = elim (ℕ-discrete i k) [ yes u ↦ subst P (sym u) p | no ne ↦ h i (omega arith) ]

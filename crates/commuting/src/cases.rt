@@ -1,91 +1,80 @@
 // Document 01's table of the pairs that commute, a row each.
-use flow::Action;
-use flow::Key;
-use flow::Match;
-use flow::Packet;
+use crate::footprint::Footprint;
 ghost use mathlib.Core.Path.{_≡_};
-ghost use Rattle.commuting.specs.Commuting.{pkt-write, add-add, add-dels, add-deln, add-modn, addc-other, addc-modn, apart-deln, modn-dels, modn-modn};
+ghost use Rattle.commuting.specs.Footprints.{apartBy, outsideBy, keysDifferBy, addAddBy, addModnBy, addcOtherBy, addcModnBy, modnModnBy};
 
-pub fn packet_write(p: Packet, m: Match) -> bool
-    ensures { λ r. ⌜ r ≡ pkt-write p m ⌝ }
+// Packet and write, `addc` and `deln`, `modn` and `deln`: no overlap.
+pub fn apart(j: Footprint, k: Footprint) -> bool
+    ensures { λ r. ⌜ r ≡ apartBy j k ⌝ }
 {
-    !m.fits(p)
+    !j.bits.overlaps(k.bits)
 }
 
-pub fn add_add(j: Key, a: Action, k: Key, b: Action) -> bool
-    ensures { λ r. ⌜ r ≡ add-add j a k b ⌝ }
+// `add` and `deln`, `dels` and `modn`: the first does not lie within the second.
+pub fn outside(j: Footprint, k: Footprint) -> bool
+    ensures { λ r. ⌜ r ≡ outsideBy j k ⌝ }
 {
-    if a.same(b) {
+    !j.bits.within(k.bits)
+}
+
+// `add` and `dels`.
+pub fn keys_differ(j: Footprint, k: Footprint) -> bool
+    ensures { λ r. ⌜ r ≡ keysDifferBy j k ⌝ }
+{
+    !j.same_key(k)
+}
+
+pub fn add_add(j: Footprint, k: Footprint) -> bool
+    ensures { λ r. ⌜ r ≡ addAddBy j k ⌝ }
+{
+    if j.action == k.action {
         return true;
     }
-    !j.same(k)
+    !j.same_key(k)
 }
 
-pub fn add_delete_strict(j: Key, k: Key) -> bool
-    ensures { λ r. ⌜ r ≡ add-dels j k ⌝ }
+pub fn add_modify(j: Footprint, k: Footprint) -> bool
+    ensures { λ r. ⌜ r ≡ addModnBy j k ⌝ }
 {
-    !j.same(k)
-}
-
-pub fn add_delete(j: Key, m: Match) -> bool
-    ensures { λ r. ⌜ r ≡ add-deln j m ⌝ }
-{
-    !j.pattern.within(m)
-}
-
-pub fn add_modify(j: Key, a: Action, k: Key, b: Action) -> bool
-    ensures { λ r. ⌜ r ≡ add-modn j a k b ⌝ }
-{
-    if !j.pattern.within(k.pattern) {
+    if !j.bits.within(k.bits) {
         return true;
     }
-    if !a.same(b) {
+    if j.action != k.action {
         return false;
     }
-    j.same(k)
+    j.same_key(k)
 }
 
-pub fn checked_other(j: Key, k: Key) -> bool
-    ensures { λ r. ⌜ r ≡ addc-other j k ⌝ }
+pub fn checked_other(j: Footprint, k: Footprint) -> bool
+    ensures { λ r. ⌜ r ≡ addcOtherBy j k ⌝ }
 {
     if j.priority != k.priority {
         return true;
     }
-    !flow_table::clash(j, k)
+    let clash = j.bits.overlaps(k.bits);
+    !clash
 }
 
-pub fn checked_modify(j: Key, k: Key) -> bool
-    ensures { λ r. ⌜ r ≡ addc-modn j k ⌝ }
+pub fn checked_modify(j: Footprint, k: Footprint) -> bool
+    ensures { λ r. ⌜ r ≡ addcModnBy j k ⌝ }
 {
-    if j.pattern.within(k.pattern) {
+    if j.bits.within(k.bits) {
         return false;
     }
     checked_other(j, k)
 }
 
-pub fn apart_delete(j: Key, m: Match) -> bool
-    ensures { λ r. ⌜ r ≡ apart-deln j m ⌝ }
+pub fn modify_modify(j: Footprint, k: Footprint) -> bool
+    ensures { λ r. ⌜ r ≡ modnModnBy j k ⌝ }
 {
-    !j.pattern.overlaps(m)
-}
-
-pub fn modify_delete_strict(j: Key, k: Key) -> bool
-    ensures { λ r. ⌜ r ≡ modn-dels j k ⌝ }
-{
-    !k.pattern.within(j.pattern)
-}
-
-pub fn modify_modify(j: Key, a: Action, k: Key, b: Action) -> bool
-    ensures { λ r. ⌜ r ≡ modn-modn j a k b ⌝ }
-{
-    let m = j.pattern;
-    let n = k.pattern;
+    let m = j.bits;
+    let n = k.bits;
     if !m.overlaps(n) {
         return true;
     }
-    if !a.same(b) {
+    if j.action != k.action {
         return false;
     }
     let apart = !m.within(n) & !n.within(m);
-    apart | j.same(k)
+    apart | j.same_key(k)
 }

@@ -1,5 +1,6 @@
 // The verdict on each cell of document 01's table of commuting pairs, both ways round and on both sides of its condition.
 // What must come out is in the file `stdout`.
+use commuting::Footprint;
 use flow::Action;
 use flow::Entry;
 use flow::Exact;
@@ -243,8 +244,8 @@ fn verdict(yes: bool) {
 fn pair(digits: u32) {
     let one = digits / 65536;
     let other = digits % 65536;
-    let v = table_effect(operation(one));
-    let w = table_effect(operation(other));
+    let v = Footprint::of(table_effect(operation(one)));
+    let w = Footprint::of(table_effect(operation(other)));
     say_operation(one);
     say(b", ");
     say_operation(other);

@@ -26,7 +26,7 @@ same-match : (m n : Match) → isEqual (matchOrder m n) ≡ sameMatch m n
 unfolding matchOrder rank sameMatch
 same-match m n = simp (equal-then, and-assoc, and-true)
 
-same-key : (j k : Key) → sameKey j k ≡ (eqb (k .priority) (j .priority) && sameMatch (j .pattern) (k .pattern))
+pub same-key : (j k : Key) → sameKey j k ≡ (eqb (k .priority) (j .priority) && sameMatch (j .pattern) (k .pattern))
 unfolding sameKey keyOrder
 same-key j k = equal-then (k .priority) (j .priority) (matchOrder (j .pattern) (k .pattern)) ∙ ap (λ b. eqb (k .priority) (j .priority) && b) (same-match (j .pattern) (k .pattern))
 

@@ -6,12 +6,15 @@ use trace_events::Trace;
 ghost use mathlib.Core.Path.{_≡_};
 ghost use Prim.Native.Nat.{ℕ, _<_, _≤_};
 ghost use lib.ListN.{length, getD};
+ghost use Rattle.flow_table.specs.FlowTable.{effectOf};
+ghost use Rattle.commuting.specs.Footprints.{NarrowEffect};
 ghost use Rattle.trace_events.specs.Events.{eventsOf, eventAt};
 ghost use Rattle.list_verdicts.specs.Inner.{noUse, tableUse};
 
 pub(crate) fn all_uses(t: Trace) -> [TableUse; 256]
     requires { ⌜ t .len ≤ 256 ⌝ }
-    ensures { λ r. ⌜ (length r ≡ 256) × ((k : ℕ) → k < t .len → getD r k noUse ≡ tableUse (eventAt (eventsOf t) k .operation)) ⌝ }
+    ensures { λ r. ⌜ (length r ≡ 256) × ((k : ℕ) → k < t .len → getD r k noUse ≡ tableUse (eventAt (eventsOf t) k .operation))
+        × ((k : ℕ) → k < t .len → NarrowEffect (effectOf (eventAt (eventsOf t) k .operation))) ⌝ }
 {
     let n = t.len;
     let none = use_of(Operation::Other);

@@ -1,11 +1,13 @@
 // The verdict on one pair of events.
+use commuting::Footprint;
 use commuting_pairs::commutes;
-use flow_table::Effect;
 use flow_table::Operation;
 use flow_table::effect_of;
 use trace_events::switch_of;
 ghost use mathlib.Core.Path.{_≡_};
+ghost use Rattle.flow_table.specs.FlowTable.{effectOf};
 ghost use Rattle.flow_table.specs.Switches.{usesTable};
+ghost use Rattle.commuting.specs.Footprints.{NarrowEffect};
 ghost use Rattle.list_verdicts.specs.Inner.{tableUse, usesPaired, verdictBy};
 
 // No pair; or a pair that is ordered, commuting or listed.
@@ -16,12 +18,12 @@ pub enum Verdict {
     Listed,
 }
 
-// What an event is to the list: whether it uses a table, of which switch, and what it does there. Worked out once an event, not once a
-// pair.
+// What an event is to the list: whether it uses a table, of which switch, and the footprint of what it does there. Worked out once an
+// event, not once a pair.
 pub struct TableUse {
     pub uses: bool,
     pub switch: u8,
-    pub effect: Effect,
+    pub footprint: Footprint,
 }
 
 fn uses_table(o: Operation) -> bool
@@ -36,12 +38,14 @@ fn uses_table(o: Operation) -> bool
 }
 
 pub fn use_of(o: Operation) -> TableUse
-    ensures { λ r. ⌜ r ≡ tableUse o ⌝ }
+    ensures { λ r. ⌜ (r ≡ tableUse o) × NarrowEffect (effectOf o) ⌝ }
 {
+    let effect = effect_of(o);
+    let footprint = Footprint::of(effect);
     TableUse {
         uses: uses_table(o),
         switch: switch_of(o),
-        effect: effect_of(o),
+        footprint,
     }
 }
 
@@ -62,8 +66,8 @@ pub fn verdict_of(a: TableUse, b: TableUse, ordered: bool) -> Verdict
     if ordered {
         return Verdict::Ordered;
     }
-    let v = a.effect;
-    let w = b.effect;
+    let v = a.footprint;
+    let w = b.footprint;
     if commutes(v, w) {
         return Verdict::Commuting;
     }

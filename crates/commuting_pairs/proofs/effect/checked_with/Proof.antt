@@ -1,5 +1,6 @@
-use Rattle.commuting.specs.Commuting.{commutes}
-use Rattle.commuting_pairs.proofs.Arms.{second-arm}
+use mathlib.Core.Path.{refl}
+use Rattle.commuting.specs.Footprints.{addcBy}
+use Rattle.commuting_pairs.proofs.Arms.{in-arm}
 use borrow.Author.Needs.{needs}
 use Rattle.commuting_pairs.proofs.effect.checked_with.Statement.{statement}
 use Rattle.commuting_pairs.proofs.effect.checked_with.Tie as tie
@@ -7,11 +8,11 @@ use Rattle.commuting_pairs.proofs.effect.checked_with.Tie as tie
 pub checked-with-spec : {M : Type 1} → statement M
 checked-with-spec =
     tie.close
-    (tie.spec (λ c. search needs) (λ c κs. search needs) (λ c. search needs) (λ c κs. search needs) (λ c. search needs) (λ c κs. search needs) (λ c. search needs) (λ c κs. search needs) (λ c. search needs) (λ c κs. search needs) (λ c. search needs) (λ c κs. search needs) (λ c. search needs)
-    (λ c. second-arm _ (c .before .before .other .given .1) (unfold commutes in search needs))
-    (λ c. second-arm _ (c .before .before .other2 .given .1) (unfold commutes in search needs))
-    (λ c. second-arm _ (c .before .before .other3 .given .1) (unfold commutes in search needs))
-    (λ c. second-arm _ (c .before .before .other4 .given .1) (unfold commutes in search needs))
-    (λ c. second-arm _ (c .before .before .other5 .given .1) (unfold commutes in search needs))
-    (λ c. second-arm _ (c .before .before .other6 .given .1) (unfold commutes in search needs))
-    (λ c. second-arm _ (c .enum-told .given .1) (unfold commutes in search needs)))
+    (tie.spec (λ c. search needs) (λ c. search needs) (λ c κs. search needs) (λ c. search needs) (λ c κs. search needs) (λ c. search needs) (λ c κs. search needs) (λ c. search needs) (λ c κs. search needs) (λ c. search needs) (λ c κs. search needs) (λ c. search needs) (λ c κs. search needs)
+    (λ c. in-arm (λ x. addcBy x (c .before .before .args .j) (c .before .before .args .k)) (c .enum-told .given .1) refl)
+    (λ c. in-arm (λ x. addcBy x (c .before .before .before .args .j) (c .before .before .before .args .k)) (c .before .enum-told2 .given .1) (c .apart .ensures))
+    (λ c. in-arm (λ x. addcBy x (c .before .before .before .args .j) (c .before .before .before .args .k)) (c .before .enum-told3 .given .1) (c .checked-other .ensures))
+    (λ c. in-arm (λ x. addcBy x (c .before .before .before .args .j) (c .before .before .before .args .k)) (c .before .enum-told4 .given .1) (c .checked-other2 .ensures))
+    (λ c. in-arm (λ x. addcBy x (c .before .before .before .args .j) (c .before .before .before .args .k)) (c .before .enum-told5 .given .1) (c .checked-modify .ensures))
+    (λ c. in-arm (λ x. addcBy x (c .before .before .before .args .j) (c .before .before .before .args .k)) (c .before .enum-told6 .given .1) (c .checked-other3 .ensures))
+    (λ c. in-arm (λ x. addcBy x (c .before .before .before .args .j) (c .before .before .before .args .k)) (c .before .enum-told7 .given .1) (c .apart2 .ensures)))

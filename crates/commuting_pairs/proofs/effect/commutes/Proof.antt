@@ -1,5 +1,6 @@
-use Rattle.commuting.specs.Commuting.{commutes}
-use Rattle.commuting_pairs.proofs.Arms.{first-arm}
+use mathlib.Core.Path.{refl}
+use Rattle.commuting.specs.Footprints.{commuteBy, footprintsCommute}
+use Rattle.commuting_pairs.proofs.Arms.{in-arm}
 use borrow.Author.Needs.{needs}
 use Rattle.commuting_pairs.proofs.effect.commutes.Statement.{statement}
 use Rattle.commuting_pairs.proofs.effect.commutes.Tie as tie
@@ -7,11 +8,11 @@ use Rattle.commuting_pairs.proofs.effect.commutes.Tie as tie
 pub commutes-spec : {M : Type 1} → statement M
 commutes-spec =
     tie.close
-    (tie.spec (λ c. search needs) (λ c κs. search needs) (λ c. search needs) (λ c κs. search needs) (λ c. search needs) (λ c κs. search needs) (λ c. search needs) (λ c κs. search needs) (λ c. search needs) (λ c κs. search needs) (λ c. search needs) (λ c κs. search needs) (λ c. search needs)
-    (λ c. first-arm _ (c .before .before .v .given .1) (search needs))
-    (λ c. first-arm _ (c .before .before .v2 .given .1) (search needs))
-    (λ c. first-arm _ (c .before .before .v3 .given .1) (search needs))
-    (λ c. first-arm _ (c .before .before .v4 .given .1) (search needs))
-    (λ c. first-arm _ (c .before .before .v5 .given .1) (search needs))
-    (λ c. first-arm _ (c .before .before .v6 .given .1) (search needs))
-    (λ c. first-arm _ (c .enum-told .given .1) (unfold commutes in search needs)))
+    (tie.spec (λ c. search needs) (λ c. search needs) (λ c κs. search needs) (λ c. search needs) (λ c κs. search needs) (λ c. search needs) (λ c κs. search needs) (λ c. search needs) (λ c κs. search needs) (λ c. search needs) (λ c κs. search needs) (λ c. search needs) (λ c κs. search needs)
+    (λ c. unfold footprintsCommute in in-arm (λ x. commuteBy x (c .before .before .args .j) (c .before .before .args .k)) (c .enum-told .given .1) refl)
+    (λ c. unfold footprintsCommute in in-arm (λ x. commuteBy x (c .before .before .before .args .j) (c .before .before .before .args .k)) (c .before .enum-told2 .given .1) (c .packet-with .ensures))
+    (λ c. unfold footprintsCommute in in-arm (λ x. commuteBy x (c .before .before .before .args .j) (c .before .before .before .args .k)) (c .before .enum-told3 .given .1) (c .add-with .ensures))
+    (λ c. unfold footprintsCommute in in-arm (λ x. commuteBy x (c .before .before .before .args .j) (c .before .before .before .args .k)) (c .before .enum-told4 .given .1) (c .checked-with .ensures))
+    (λ c. unfold footprintsCommute in in-arm (λ x. commuteBy x (c .before .before .before .args .j) (c .before .before .before .args .k)) (c .before .enum-told5 .given .1) (c .modify-with .ensures))
+    (λ c. unfold footprintsCommute in in-arm (λ x. commuteBy x (c .before .before .before .args .j) (c .before .before .before .args .k)) (c .before .enum-told6 .given .1) (c .delete-strict-with .ensures))
+    (λ c. unfold footprintsCommute in in-arm (λ x. commuteBy x (c .before .before .before .args .j) (c .before .before .before .args .k)) (c .before .enum-told7 .given .1) (c .delete-with .ensures)))

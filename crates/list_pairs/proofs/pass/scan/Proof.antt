@@ -109,7 +109,7 @@ loop2-again c =
     ∙ ap₂ (λ (x y : TableUse). verdictBy x y (v .before .is-before .result))
     (getD-either (w .result) i _ noUse (omega (arith, w .ensures .0, s .pre .0)) ∙ w .ensures .1 i (omega (arith, s .pre .0)))
     (getD-either (w .result) (m .j) _ noUse (omega (arith, w .ensures .0, s .pre .0)) ∙ w .ensures .1 (m .j) (omega arith))
-    ∙ verdict-by (eventAt es i .operation) (eventAt es (m .j) .operation) (v .before .is-before .result) in (
+    ∙ verdict-by (eventAt es i .operation) (eventAt es (m .j) .operation) (w .ensures .2 i (omega (arith, s .pre .0))) (w .ensures .2 (m .j) (omega arith)) (v .before .is-before .result) in (
       omega arith,
       omega arith,
       λ k. count-turn es i (m .j) (m .inv .0) before-is verdict k _ _ _ (c .counted .ensures k) (m .inv .2 k),

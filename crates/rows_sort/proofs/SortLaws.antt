@@ -5,11 +5,12 @@ use mathlib.Core.Bool.{Bool, true, false, _||_, cond, true≢false, false≢true
 use mathlib.Core.Option.{Option, none, some}
 use mathlib.Core.Logic.{_↔_, _⊎_, inl, inr, ⊎-elim}
 use mathlib.Core.List.{List, [], _∷_, _++_, List·Memᴰ, List·Memᴰ·head, List·Memᴰ·tail, List·Memᴰ·cases-cons, List·Memᴰ·not-nil, List·Memᴰ·append-cases, List·Memᴰ·eq-of-singleton, Memᴰ·cast, Memᴰ·append-left, Memᴰ·append-right}
-use Prim.Native.Nat.{ℕ, zero, suc, _+_, _≤_, _<_}
+use Prim.Native.Nat.{ℕ, zero, suc, _+_, _-_, _≤_, _<_}
 use native.Mathlib.Numerals.{add-one}
 use native.Mathlib.Omega.{arith}
 use lib.Dec.{ltb}
-use lib.ListN.{length, take, drop, getD, getElem?}
+use lib.ListN.{length, take, drop, getD, getElem?, set, length-set}
+use lib.Seq.{drop-nil, length-take-le, take-add, drop-at, drop-set-lt}
 use borrow.Author.Tests.{ltb-true, ltb-false}
 use Rattle.flow.specs.Entries.{isEqual}
 use Rattle.basics.proofs.Booleans.{split, or-cases}
@@ -18,6 +19,7 @@ use Rattle.rows.specs.declared.row.Row.{Row}
 use Rattle.rows.specs.Rows.{rowOrder, sameSlot, RowBefore, SortedRows, insertRowBy, insertRow, anyRow}
 use Rattle.rows_sort.specs.Sorting.{standsIn, standsEarlier, sortFrom, sortRows}
 use Rattle.rows_search.specs.Inner.{found, foundBy}
+use Rattle.rows_search.proofs.Shifts.{Shifting}
 use Rattle.rows.proofs.RowOrder.{slotOf, row-same, like-slot-right, same-slot-iff}
 use Rattle.basics.proofs.Arrays.{next, ended}
 use Rattle.rows.proofs.RowLaws.{row-before-chain, sorted-insert-row, same-rows}
@@ -51,6 +53,29 @@ module _ (l : List Row) (n k : ℕ) (d : Row) (h : k < n) (fits : n ≤ length l
 pub no-lines : (l : List Row) (n k : ℕ) (rs : List Row) → n ≤ k → n ≤ length l → sortFrom k rs (drop k (take n l)) ≡ inr rs
 unfolding sortFrom
 no-lines l n k rs h fits = rw (ended l n k h fits) refl
+
+-- ---- a row put in at its place leaves the rows behind it where they are
+behind-gap : (l : List Row) (j i : ℕ) → j ≤ i → drop i (take j l ++ drop (suc j) l) ≡ drop (suc i) l
+behind-gap [] zero i h = drop-nil i
+behind-gap [] (suc j) i h = drop-nil i
+behind-gap (x ∷ xs) zero i h = refl
+behind-gap (x ∷ xs) (suc j) zero h = absurd (omega arith)
+behind-gap (x ∷ xs) (suc j) (suc i) h = behind-gap xs j i (omega arith)
+
+-- of the first n rows those from k on
+left-of : (l : List Row) (n k : ℕ) → k ≤ n → k ≤ length l → drop k (take n l) ≡ take (n - k) (drop k l)
+left-of l n k h fits =
+    let e : n ≡ k + (n - k) = omega arith in
+    ap (λ j. drop k (take j l)) e ∙ ap (drop k) (take-add k (n - k) l) ∙ drop-at (take k l) (take (n - k) (drop k l)) k (length-take-le k l fits)
+
+-- row i put in at its place: of the first n those behind i
+pub shift-rest : {at i j : ℕ} {l₀ l : List Row} → Shifting at i l₀ i l j → (n : ℕ) (a : Row) → i < n → n ≤ 512 → length l₀ ≡ 512
+    → drop (i + 1) (take n (set l at a)) ≡ drop (i + 1) (take n l₀)
+shift-rest {at} {i} {j} {l₀} {l} s n a h m size =
+    let kept : drop (i + 1) l ≡ drop (i + 1) l₀ = rw add-one (sym (behind-gap l j i (s .below)) ∙ ap (drop i) (s .keeps) ∙ behind-gap l₀ i i (omega arith)) in
+    left-of (set l at a) n (i + 1) (omega arith) (simp length-set (omega (arith, s .size)))
+    ∙ ap (take (n - (i + 1))) (drop-set-lt (i + 1) l at a (omega (arith, s .above, s .below)) ∙ kept)
+    ∙ sym (left-of l₀ n (i + 1) (omega arith) (omega arith))
 
 -- ---- which switches and keys, and which rows, are there after an insert
 or-absorb : (a b : Bool) → (a || b) ≡ (a || (a || b))

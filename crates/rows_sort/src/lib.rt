@@ -12,8 +12,8 @@ pub struct Sorted {
     pub rows: Rows,
 }
 
-// Each line's place among those before it is searched, and the rows from there on move up by one. All loops stand here, since an
-// inner call would copy the rows at each turn.
+// Each line's place among those before it is searched, and the rows from there up to its own move up by one; those behind it stay
+// where they are. All loops stand here, since an inner call would copy the rows at each turn.
 pub fn sort(lines: Rows) -> Sorted
     requires { ⌜ lines .len ≤ 512 ⌝ }
     ensures { λ r. ⌜ Sorts r (sortRows (rowsOf lines)) × (r .rows .len ≤ lines .len) ⌝ }
@@ -21,7 +21,7 @@ pub fn sort(lines: Rows) -> Sorted
     let n = lines.len;
     let mut rows = lines.rows;
     for i in 0..n {
-        let x = lines.rows[i];
+        let x = rows[i];
         let mut search = Search {
             low: 0,
             at: i,

@@ -12,14 +12,19 @@ ghost use lib.ListN.{length};
 ghost use Rattle.refusals.specs.Checks.{written};
 ghost use Rattle.rows.specs.Rows.{rowsOf};
 ghost use Rattle.tables_normal.specs.Normal.{normalised, normalAnswer};
-ghost use Rattle.tables_normal.specs.Inner.{fittingText};
+ghost use Rattle.tables_normal.specs.Inner.{fittingText, RowsInRange};
 
 // The text of the rows, at the front of an output that has room for it.
 fn put_normal(out: &mut [u8], rows: Rows) -> NormalAnswer
-    requires { ⌜ rows .len ≤ 512 ⌝ }
+    requires { ⌜ (rows .len ≤ 512) × RowsInRange (rowsOf rows) ⌝ }
     ensures { λ r. ⌜ r ≡ normalAnswer (fittingText (length (now (out .entry))) (rowsOf rows)) ⌝ }
     ensures { λ _. ⌜ now (out .exit) ≡ written (fittingText (length (now (out .entry))) (rowsOf rows)) (now (out .entry)) ⌝ }
 {
+    // A line has at most 115 bytes: where each row has that room the text fits, and is not counted first.
+    if 115 * rows.len <= out.len() {
+        let n = write_normal(out, rows);
+        return NormalAnswer::Length(n);
+    }
     let needed = normal_length(rows);
     if out.len() < needed {
         return NormalAnswer::Refused(Refusal::TablesShort(needed));

@@ -6,12 +6,12 @@ use lib.Dec.{eqb}
 use borrow.Author.Tests.{eq-eqb, eqb-true}
 use Rattle.basics.proofs.Booleans.{both-ways}
 use Rattle.flow.specs.Entries.{sameKey, sameAction}
-use Rattle.flow.specs.Bits.{bitsOf, bitsOverlap, bitsSame, exactly, Narrow}
+use Rattle.flow.specs.InnerBits.{bitsOf, bitsOverlap, bitsSame, exactly, Narrow}
 use Rattle.flow.proofs.ByWords.{overlaps-bits, within-bits, same-bits, fits-exactly}
 use Rattle.flow.proofs.SameKey.{same-key}
 use Rattle.commuting.specs.Types.{Match, Packet, Key, Effect}
 use Rattle.commuting.specs.Commuting.{pkt-write, commutes}
-use Rattle.commuting.specs.Footprints.{footprintOf, NarrowEffect, sameKeyBy, footprintsCommute}
+use Rattle.commuting.specs.InnerFootprints.{footprintOf, NarrowEffect, sameKeyBy, footprintsCommute}
 
 packet-apart : (p : Packet) (m : Match) → Narrow (exactly p) → Narrow m → not (bitsOverlap (bitsOf m) (bitsOf (exactly p))) ≡ pkt-write p m
 packet-apart p m h k = ap not (overlaps-bits m (exactly p) k h ∙ sym (fits-exactly m p))

@@ -2,4 +2,4 @@ pub mod Types
 pub mod Commuting
 pub mod Marked
 pub mod Inner
-pub mod Footprints
+pub mod InnerFootprints

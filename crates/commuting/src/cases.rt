@@ -1,7 +1,7 @@
 // Document 01's table of the pairs that commute, a row each.
 use crate::footprint::Footprint;
 ghost use mathlib.Core.Path.{_≡_};
-ghost use Rattle.commuting.specs.Footprints.{apartBy, outsideBy, keysDifferBy, addAddBy, addModnBy, addcOtherBy, addcModnBy, modnModnBy};
+ghost use Rattle.commuting.specs.InnerFootprints.{apartBy, outsideBy, keysDifferBy, addAddBy, addModnBy, addcOtherBy, addcModnBy, modnModnBy};
 
 // Packet and write, `addc` and `deln`, `modn` and `deln`: no overlap.
 pub fn apart(j: Footprint, k: Footprint) -> bool

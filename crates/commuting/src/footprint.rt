@@ -6,8 +6,8 @@ use flow::Match;
 use flow::Word;
 use flow_table::Effect;
 ghost use mathlib.Core.Path.{_≡_};
-ghost use Rattle.flow.specs.Bits.{Narrow};
-ghost use Rattle.commuting.specs.Footprints.{printed, noFootprint, footprintOf, NarrowEffect, sameKeyBy};
+ghost use Rattle.flow.specs.InnerBits.{Narrow};
+ghost use Rattle.commuting.specs.InnerFootprints.{printed, noFootprint, footprintOf, NarrowEffect, sameKeyBy};
 ghost use Rattle.commuting.specs.Commuting.{at};
 
 // The forms of an effect.

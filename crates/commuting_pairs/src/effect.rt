@@ -10,7 +10,7 @@ use commuting::cases::keys_differ;
 use commuting::cases::modify_modify;
 use commuting::cases::outside;
 ghost use mathlib.Core.Path.{_≡_};
-ghost use Rattle.commuting.specs.Footprints.{packetBy, addBy, addcBy, modnBy, delsBy, delnBy, footprintsCommute};
+ghost use Rattle.commuting.specs.InnerFootprints.{packetBy, addBy, addcBy, modnBy, delsBy, delnBy, footprintsCommute};
 
 fn packet_with(j: Footprint, k: Footprint) -> bool
     ensures { λ r. ⌜ r ≡ packetBy (k .kind) j k ⌝ }

@@ -12,7 +12,7 @@ use Rattle.basics.proofs.Booleans.{both-ways, and-assoc, and-true, and-false-ri
 use Rattle.flow.specs.Types.{Exact, Prefix, Match, Packet, Word, Bits}
 use Rattle.flow.specs.Matches.{exactFits, exactOverlaps, exactWithin, prefixFits, prefixOverlaps, fits, overlaps, within, maskOf}
 use Rattle.flow.specs.Inner.{sameExact, samePrefix, sameMatch}
-use Rattle.flow.specs.Bits.{wordOverlaps, wordWithin, wordSame, joined, InBits, exactWord, prefixWord, lengthWord, firstWord, secondWord, thirdWord, bitsOf, bitsOverlap, bitsWithin, bitsSame, Narrow, exactly}
+use Rattle.flow.specs.InnerBits.{wordOverlaps, wordWithin, wordSame, joined, InBits, exactWord, prefixWord, lengthWord, firstWord, secondWord, thirdWord, bitsOf, bitsOverlap, bitsWithin, bitsSame, Narrow, exactly}
 use Rattle.flow.proofs.PrefixField.{nested}
 use Rattle.flow.proofs.Words.{joined-overlaps, joined-within, joined-same, joined-in-bits}
 

@@ -10,7 +10,7 @@ use lib.Bits.{bitAnd, and-block, and-lt}
 use borrow.Author.Tests.{eq-eqb, eqb-true}
 use Rattle.basics.proofs.Booleans.{both-ways, and-intro, and-left, and-right, and-swap}
 use Rattle.flow.specs.Types.{Word}
-use Rattle.flow.specs.Bits.{wordOverlaps, wordWithin, wordSame, joined, InBits}
+use Rattle.flow.specs.InnerBits.{wordOverlaps, wordWithin, wordSame, joined, InBits}
 
 -- the k bits r below the bits a
 block-eqb : (k a b r s : ℕ) → r < 2 ^ k → s < 2 ^ k → eqb (a * 2 ^ k + r) (b * 2 ^ k + s) ≡ (eqb a b && eqb r s)

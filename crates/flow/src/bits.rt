@@ -2,7 +2,7 @@
 // once for a match that is held against many.
 ghost use mathlib.Core.Path.{_≡_};
 ghost use Prim.Native.Nat.{_+_, _≤_};
-ghost use Rattle.flow.specs.Bits.{wordOverlaps, wordWithin, wordSame, bitsOverlap, bitsWithin, bitsSame, joined, InBits};
+ghost use Rattle.flow.specs.InnerBits.{wordOverlaps, wordWithin, wordSame, bitsOverlap, bitsWithin, bitsSame, joined, InBits};
 
 pub struct Word {
     pub value: u64,

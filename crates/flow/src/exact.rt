@@ -6,7 +6,7 @@ ghost use Rattle.flow.specs.Matches.{exactFits, exactOverlaps, exactWith
 ghost use Rattle.flow.specs.Entries.{exactRank};
 ghost use Rattle.flow.specs.Inner.{sameExact};
 ghost use Rattle.flow.specs.Orders.{orderOf, thenBy};
-ghost use Rattle.flow.specs.Bits.{exactWord, InBits};
+ghost use Rattle.flow.specs.InnerBits.{exactWord, InBits};
 
 pub enum Exact {
     Any,

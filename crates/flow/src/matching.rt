@@ -8,7 +8,7 @@ ghost use mathlib.Core.Path.{_≡_};
 ghost use Rattle.flow.specs.Matches.{fits, overlaps, within, clear};
 ghost use Rattle.flow.specs.Entries.{matchOrder};
 ghost use Rattle.flow.specs.Inner.{sameMatch};
-ghost use Rattle.flow.specs.Bits.{firstWord, secondWord, thirdWord, bitsOf, exactly, NarrowFirst, NarrowSecond, NarrowThird, Narrow};
+ghost use Rattle.flow.specs.InnerBits.{firstWord, secondWord, thirdWord, bitsOf, exactly, NarrowFirst, NarrowSecond, NarrowThird, Narrow};
 
 pub struct Match {
     pub port: Exact,

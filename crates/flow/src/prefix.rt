@@ -6,7 +6,7 @@ ghost use Prim.Native.Nat.{_-_, min};
 ghost use Rattle.flow.specs.Matches.{maskOf, prefixFits, prefixOverlaps, prefixWithin, prefixClear};
 ghost use Rattle.flow.specs.Inner.{sameLeading, samePrefix};
 ghost use Rattle.flow.specs.Orders.{orderOf, thenBy};
-ghost use Rattle.flow.specs.Bits.{prefixWord, lengthWord, InBits};
+ghost use Rattle.flow.specs.InnerBits.{prefixWord, lengthWord, InBits};
 
 pub struct Prefix {
     pub value: u32,

@@ -7,7 +7,7 @@ ghost use mathlib.Core.Path.{_≡_};
 ghost use Prim.Native.Nat.{ℕ, _<_, _≤_};
 ghost use lib.ListN.{length, getD};
 ghost use Rattle.flow_table.specs.FlowTable.{effectOf};
-ghost use Rattle.commuting.specs.Footprints.{NarrowEffect};
+ghost use Rattle.commuting.specs.InnerFootprints.{NarrowEffect};
 ghost use Rattle.trace_events.specs.Events.{eventsOf, eventAt};
 ghost use Rattle.list_verdicts.specs.Inner.{noUse, tableUse};
 

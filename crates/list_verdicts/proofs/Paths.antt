@@ -2,7 +2,7 @@
 use mathlib.Core.Path.{_≡_, refl, sym, _∙_}
 use mathlib.Core.Bool.{Bool, true, false}
 use Rattle.flow_table.specs.FlowTable.{effectOf}
-use Rattle.commuting.specs.Footprints.{footprintsCommute, NarrowEffect}
+use Rattle.commuting.specs.InnerFootprints.{footprintsCommute, NarrowEffect}
 use Rattle.commuting.proofs.Footprints.{footprints-commute}
 use Rattle.list_verdicts.specs.Kinds.{paired}
 use Rattle.list_verdicts.specs.Types.{Operation, Verdict, TableUse}

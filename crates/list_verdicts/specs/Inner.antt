@@ -4,7 +4,7 @@ use lib.Dec.{eqb}
 use Rattle.flow_table.specs.FlowTable.{effectOf}
 use Rattle.flow_table.specs.Switches.{switchOf, usesTable}
 use Rattle.commuting.specs.Commuting.{commutes}
-use Rattle.commuting.specs.Footprints.{footprintOf, footprintsCommute}
+use Rattle.commuting.specs.InnerFootprints.{footprintOf, footprintsCommute}
 use Rattle.list_verdicts.specs.Kinds.{paired}
 use Rattle.list_verdicts.specs.Types.{Operation, Effect, Verdict, TableUse}
 

@@ -7,7 +7,7 @@ use trace_events::switch_of;
 ghost use mathlib.Core.Path.{_≡_};
 ghost use Rattle.flow_table.specs.FlowTable.{effectOf};
 ghost use Rattle.flow_table.specs.Switches.{usesTable};
-ghost use Rattle.commuting.specs.Footprints.{NarrowEffect};
+ghost use Rattle.commuting.specs.InnerFootprints.{NarrowEffect};
 ghost use Rattle.list_verdicts.specs.Inner.{tableUse, usesPaired, verdictBy};
 
 // No pair; or a pair that is ordered, commuting or listed.

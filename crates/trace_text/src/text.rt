@@ -18,8 +18,8 @@ ghost use Rattle.trace_text.specs.Inner.{TraceOf, checkTokens};
 
 // Accepted, the trace holds the events; refused, none.
 pub struct TraceRead {
-    pub outcome: Outcome,
     pub trace: Trace,
+    pub outcome: Outcome,
 }
 
 // A text that is refused: no events.

@@ -1,5 +1,5 @@
 use mathlib.Core.Path.{refl}
-use Rattle.commuting.specs.Footprints.{addBy}
+use Rattle.commuting.specs.InnerFootprints.{addBy}
 use Rattle.commuting_pairs.proofs.Arms.{in-arm}
 use borrow.Author.Needs.{needs}
 use Rattle.commuting_pairs.proofs.effect.add_with.Statement.{statement}

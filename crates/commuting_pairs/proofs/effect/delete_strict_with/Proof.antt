@@ -1,5 +1,5 @@
 use mathlib.Core.Path.{refl}
-use Rattle.commuting.specs.Footprints.{delsBy}
+use Rattle.commuting.specs.InnerFootprints.{delsBy}
 use Rattle.commuting_pairs.proofs.Arms.{in-arm}
 use borrow.Author.Needs.{needs}
 use Rattle.commuting_pairs.proofs.effect.delete_strict_with.Statement.{statement}

@@ -1,5 +1,5 @@
 use mathlib.Core.Path.{refl}
-use Rattle.commuting.specs.Footprints.{delnBy}
+use Rattle.commuting.specs.InnerFootprints.{delnBy}
 use Rattle.commuting_pairs.proofs.Arms.{in-arm}
 use borrow.Author.Needs.{needs}
 use Rattle.commuting_pairs.proofs.effect.delete_with.Statement.{statement}

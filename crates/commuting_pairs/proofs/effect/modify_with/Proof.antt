@@ -1,5 +1,5 @@
 use mathlib.Core.Path.{refl}
-use Rattle.commuting.specs.Footprints.{modnBy}
+use Rattle.commuting.specs.InnerFootprints.{modnBy}
 use Rattle.commuting_pairs.proofs.Arms.{in-arm}
 use borrow.Author.Needs.{needs}
 use Rattle.commuting_pairs.proofs.effect.modify_with.Statement.{statement}

@@ -1,5 +1,5 @@
 use mathlib.Core.Path.{refl}
-use Rattle.commuting.specs.Footprints.{packetBy}
+use Rattle.commuting.specs.InnerFootprints.{packetBy}
 use Rattle.commuting_pairs.proofs.Arms.{in-arm}
 use borrow.Author.Needs.{needs}
 use Rattle.commuting_pairs.proofs.effect.packet_with.Statement.{statement}

@@ -5,7 +5,7 @@ use native.Mathlib.Omega.{arith}
 use lib.ListN.{length, length-set, getD}
 use borrow.Author.Needs.{needs}
 use Rattle.flow_table.specs.FlowTable.{effectOf}
-use Rattle.commuting.specs.Footprints.{NarrowEffect}
+use Rattle.commuting.specs.InnerFootprints.{NarrowEffect}
 use Rattle.trace_events.specs.Events.{eventsOf, eventAt}
 use Rattle.trace_events.proofs.TraceLaws.{event-at}
 use Rattle.basics.proofs.Arrays.{length-mapped, noted-more, holds-more}

@@ -1,6 +1,6 @@
 use mathlib.Core.Path.{_∙_, ap, subst}
 use borrow.Author.Needs.{needs}
-use Rattle.commuting.specs.Footprints.{footprintOf, NarrowEffect}
+use Rattle.commuting.specs.InnerFootprints.{footprintOf, NarrowEffect}
 use Rattle.list_verdicts.specs.Inner.{tableUse}
 use Rattle.list_verdicts.proofs.verdict.use_of.Statement.{statement}
 use Rattle.list_verdicts.proofs.verdict.use_of.Tie as tie

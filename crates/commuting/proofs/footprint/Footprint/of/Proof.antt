@@ -1,8 +1,8 @@
 use mathlib.Core.Path.{ap, subst, _∙_}
-use Rattle.flow.specs.Bits.{Narrow}
+use Rattle.flow.specs.InnerBits.{Narrow}
 use Rattle.commuting.specs.Types.{Match, EffectKind}
 use Rattle.commuting.specs.Commuting.{at}
-use Rattle.commuting.specs.Footprints.{printed}
+use Rattle.commuting.specs.InnerFootprints.{printed}
 use Rattle.commuting.proofs.Forms.{in-form}
 use borrow.Author.Needs.{needs}
 use Rattle.commuting.proofs.footprint.Footprint.of.Statement.{statement}

@@ -1,4 +1,4 @@
-use Rattle.commuting.specs.Footprints.{sameKeyBy}
+use Rattle.commuting.specs.InnerFootprints.{sameKeyBy}
 use borrow.Author.Needs.{needs}
 use Rattle.commuting.proofs.footprint.Footprint.same_key.Statement.{statement}
 use Rattle.commuting.proofs.footprint.Footprint.same_key.Tie as tie

@@ -1,5 +1,5 @@
 use borrow.Author.Needs.{needs}
-use Rattle.flow.specs.Bits.{bitsOverlap}
+use Rattle.flow.specs.InnerBits.{bitsOverlap}
 use Rattle.flow.proofs.bits.Bits.overlaps.Statement.{statement}
 use Rattle.flow.proofs.bits.Bits.overlaps.Tie as tie
 

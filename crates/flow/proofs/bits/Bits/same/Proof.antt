@@ -1,5 +1,5 @@
 use borrow.Author.Needs.{needs}
-use Rattle.flow.specs.Bits.{bitsSame}
+use Rattle.flow.specs.InnerBits.{bitsSame}
 use Rattle.flow.proofs.bits.Bits.same.Statement.{statement}
 use Rattle.flow.proofs.bits.Bits.same.Tie as tie
 

@@ -1,5 +1,5 @@
 use borrow.Author.Needs.{needs}
-use Rattle.flow.specs.Bits.{bitsWithin}
+use Rattle.flow.specs.InnerBits.{bitsWithin}
 use Rattle.flow.proofs.bits.Bits.within.Statement.{statement}
 use Rattle.flow.proofs.bits.Bits.within.Tie as tie
 

@@ -1,7 +1,7 @@
 use mathlib.Core.Path.{sym, subst}
 use Prim.Native.Nat.{_+_}
 use borrow.Author.Needs.{needs}
-use Rattle.flow.specs.Bits.{InBits}
+use Rattle.flow.specs.InnerBits.{InBits}
 use Rattle.flow.proofs.Words.{side-lt, beside-is, joined-in-bits}
 use Rattle.flow.proofs.bits.Word.beside.Statement.{statement}
 use Rattle.flow.proofs.bits.Word.beside.Tie as tie

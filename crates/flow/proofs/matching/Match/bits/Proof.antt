@@ -1,5 +1,5 @@
 use borrow.Author.Needs.{needs}
-use Rattle.flow.specs.Bits.{bitsOf}
+use Rattle.flow.specs.InnerBits.{bitsOf}
 use Rattle.flow.proofs.matching.Match.bits.Statement.{statement}
 use Rattle.flow.proofs.matching.Match.bits.Tie as tie
 

@@ -1,6 +1,6 @@
 use mathlib.Core.Path.{subst, ap₂, _∙_}
 use borrow.Author.Needs.{needs}
-use Rattle.flow.specs.Bits.{joined, InBits, firstWord}
+use Rattle.flow.specs.InnerBits.{joined, InBits, firstWord}
 use Rattle.flow.proofs.matching.Match.first_word.Statement.{statement}
 use Rattle.flow.proofs.matching.Match.first_word.Tie as tie
 

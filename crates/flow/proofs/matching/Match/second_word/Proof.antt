@@ -1,6 +1,6 @@
 use mathlib.Core.Path.{subst, ap₂, _∙_}
 use borrow.Author.Needs.{needs}
-use Rattle.flow.specs.Bits.{joined, InBits, secondWord}
+use Rattle.flow.specs.InnerBits.{joined, InBits, secondWord}
 use Rattle.flow.proofs.matching.Match.second_word.Statement.{statement}
 use Rattle.flow.proofs.matching.Match.second_word.Tie as tie
 

@@ -1,6 +1,6 @@
 use mathlib.Core.Path.{subst, ap₂, _∙_}
 use borrow.Author.Needs.{needs}
-use Rattle.flow.specs.Bits.{joined, InBits, thirdWord}
+use Rattle.flow.specs.InnerBits.{joined, InBits, thirdWord}
 use Rattle.flow.proofs.matching.Match.third_word.Statement.{statement}
 use Rattle.flow.proofs.matching.Match.third_word.Tie as tie
 

@@ -1,5 +1,5 @@
 use mathlib.Core.Path.{refl}
-use Rattle.flow.specs.Bits.{exactly}
+use Rattle.flow.specs.InnerBits.{exactly}
 use Rattle.flow.proofs.matching.Packet.exactly.Statement.{statement}
 use Rattle.flow.proofs.matching.Packet.exactly.Tie as tie
 

@@ -1,5 +1,5 @@
 -- Inner: a match as three words of bits, each with a mask of those that count. For matches whose fields have the bits of their
--- places the tests by words are those field by field (proofs/Bits.antt).
+-- places the tests by words are those field by field (proofs/ByWords.antt).
 use mathlib.Core.Bool.{Bool, _&&_}
 use Prim.Native.Nat.{ℕ, _+_, _*_, _^_, _<_}
 use lib.Dec.{eqb}

@@ -96,7 +96,7 @@ fn adds_race_where_all_fields_are_the_same() {
     for others_open in [true, false] {
         let of = |field| values(field).into_iter().map(move |value| items(field, &value, others_open, false));
         let matches: Vec<String> = FIELDS.into_iter().flat_map(of).collect();
-        let add = |(action, matching)| event("add", matching, "", 1, action);
+        let add = |(action, matching): (usize, &String)| event("add", matching, "", 1, action);
         let events: Vec<_> = matches.iter().enumerate().map(add).collect();
         assert_listed(&events, |low, high| matches[low] == matches[high]);
     }

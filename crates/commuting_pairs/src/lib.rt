@@ -1,4 +1,4 @@
 // Whether two events of one switch commute.
-pub mod effect;
+pub mod kinds;
 
-pub use effect::commutes;
+pub use kinds::commutes;

@@ -2,8 +2,8 @@ use mathlib.Core.Path.{refl}
 use Rattle.commuting.specs.InnerFootprints.{packetBy}
 use Rattle.commuting_pairs.proofs.Arms.{in-arm}
 use borrow.Author.Needs.{needs}
-use Rattle.commuting_pairs.proofs.effect.packet_with.Statement.{statement}
-use Rattle.commuting_pairs.proofs.effect.packet_with.Tie as tie
+use Rattle.commuting_pairs.proofs.kinds.packet_with.Statement.{statement}
+use Rattle.commuting_pairs.proofs.kinds.packet_with.Tie as tie
 
 pub packet-with-spec : {M : Type 1} → statement M
 packet-with-spec =

@@ -2,8 +2,8 @@ use mathlib.Core.Path.{refl}
 use Rattle.commuting.specs.InnerFootprints.{modnBy}
 use Rattle.commuting_pairs.proofs.Arms.{in-arm}
 use borrow.Author.Needs.{needs}
-use Rattle.commuting_pairs.proofs.effect.modify_with.Statement.{statement}
-use Rattle.commuting_pairs.proofs.effect.modify_with.Tie as tie
+use Rattle.commuting_pairs.proofs.kinds.modify_with.Statement.{statement}
+use Rattle.commuting_pairs.proofs.kinds.modify_with.Tie as tie
 
 pub modify-with-spec : {M : Type 1} → statement M
 modify-with-spec =

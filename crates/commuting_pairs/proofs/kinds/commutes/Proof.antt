@@ -2,8 +2,8 @@ use mathlib.Core.Path.{refl}
 use Rattle.commuting.specs.InnerFootprints.{commuteBy, footprintsCommute}
 use Rattle.commuting_pairs.proofs.Arms.{in-arm}
 use borrow.Author.Needs.{needs}
-use Rattle.commuting_pairs.proofs.effect.commutes.Statement.{statement}
-use Rattle.commuting_pairs.proofs.effect.commutes.Tie as tie
+use Rattle.commuting_pairs.proofs.kinds.commutes.Statement.{statement}
+use Rattle.commuting_pairs.proofs.kinds.commutes.Tie as tie
 
 pub commutes-spec : {M : Type 1} → statement M
 commutes-spec =

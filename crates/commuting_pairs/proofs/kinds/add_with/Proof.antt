@@ -2,8 +2,8 @@ use mathlib.Core.Path.{refl}
 use Rattle.commuting.specs.InnerFootprints.{addBy}
 use Rattle.commuting_pairs.proofs.Arms.{in-arm}
 use borrow.Author.Needs.{needs}
-use Rattle.commuting_pairs.proofs.effect.add_with.Statement.{statement}
-use Rattle.commuting_pairs.proofs.effect.add_with.Tie as tie
+use Rattle.commuting_pairs.proofs.kinds.add_with.Statement.{statement}
+use Rattle.commuting_pairs.proofs.kinds.add_with.Tie as tie
 
 pub add-with-spec : {M : Type 1} → statement M
 add-with-spec =

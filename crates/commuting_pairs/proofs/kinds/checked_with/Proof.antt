@@ -2,8 +2,8 @@ use mathlib.Core.Path.{refl}
 use Rattle.commuting.specs.InnerFootprints.{addcBy}
 use Rattle.commuting_pairs.proofs.Arms.{in-arm}
 use borrow.Author.Needs.{needs}
-use Rattle.commuting_pairs.proofs.effect.checked_with.Statement.{statement}
-use Rattle.commuting_pairs.proofs.effect.checked_with.Tie as tie
+use Rattle.commuting_pairs.proofs.kinds.checked_with.Statement.{statement}
+use Rattle.commuting_pairs.proofs.kinds.checked_with.Tie as tie
 
 pub checked-with-spec : {M : Type 1} → statement M
 checked-with-spec =

@@ -6,8 +6,8 @@ use lib.Dec.{eqb}
 use borrow.Author.Tests.{eq-eqb, eqb-true}
 use Rattle.basics.proofs.Booleans.{both-ways}
 use Rattle.flow.specs.Entries.{sameKey, sameAction}
-use Rattle.flow.specs.InnerBits.{bitsOf, bitsOverlap, bitsSame, exactly, Narrow}
-use Rattle.flow.proofs.ByWords.{overlaps-bits, within-bits, same-bits, fits-exactly}
+use Rattle.flow_bits.specs.Inner.{bitsOf, bitsOverlap, bitsSame, exactly, Narrow}
+use Rattle.flow_bits.proofs.ByWords.{overlaps-bits, within-bits, same-bits, fits-exactly}
 use Rattle.flow.proofs.SameKey.{same-key}
 use Rattle.commuting.specs.Types.{Match, Packet, Key, Effect}
 use Rattle.commuting.specs.Commuting.{pkt-write, commutes}

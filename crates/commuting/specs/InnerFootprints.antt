@@ -4,7 +4,7 @@ use mathlib.Core.Bool.{Bool, true, _&&_, _||_, not}
 use Prim.Native.Nat.{ℕ}
 use lib.Dec.{eqb}
 use Rattle.flow.specs.Entries.{actionCode}
-use Rattle.flow.specs.InnerBits.{bitsOf, bitsOverlap, bitsWithin, bitsSame, exactly, Narrow}
+use Rattle.flow_bits.specs.Inner.{bitsOf, bitsOverlap, bitsWithin, bitsSame, exactly, Narrow}
 use Rattle.commuting.specs.Types.{Key, Effect, Word, EffectKind, Footprint}
 use Rattle.commuting.specs.Commuting.{at}
 

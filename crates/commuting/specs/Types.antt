@@ -8,7 +8,7 @@ pub use Rattle.flow_table.specs.declared.operation.Operation.{Operation}
 pub use Rattle.flow_table.specs.declared.operation.Answer.{Answer}
 pub use Rattle.flow_table.specs.declared.effect.Effect.{Effect}
 pub use Rattle.flow.specs.declared.exact.Exact.{Exact}
-pub use Rattle.flow.specs.declared.bits.Word.{Word}
-pub use Rattle.flow.specs.declared.bits.Bits.{Bits}
+pub use Rattle.flow_bits.specs.declared.words.Word.{Word}
+pub use Rattle.flow_bits.specs.declared.matches.Bits.{Bits}
 pub use Rattle.commuting.specs.declared.footprint.EffectKind.{EffectKind}
 pub use Rattle.commuting.specs.declared.footprint.Footprint.{Footprint}

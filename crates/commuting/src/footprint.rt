@@ -1,12 +1,13 @@
 // What commuting asks of an effect, worked out once an event and not once a pair: its match as words of bits, a packet as the match
 // that it alone fits.
-use flow::Bits;
 use flow::Key;
 use flow::Match;
-use flow::Word;
+use flow_bits::Bits;
+use flow_bits::Word;
+use flow_bits::exactly;
 use flow_table::Effect;
 ghost use mathlib.Core.Path.{_≡_};
-ghost use Rattle.flow.specs.InnerBits.{Narrow};
+ghost use Rattle.flow_bits.specs.Inner.{Narrow};
 ghost use Rattle.commuting.specs.InnerFootprints.{printed, noFootprint, footprintOf, NarrowEffect, sameKeyBy};
 ghost use Rattle.commuting.specs.Commuting.{at};
 
@@ -51,7 +52,7 @@ impl Footprint {
     fn of_key(kind: EffectKind, key: Key, action: u32) -> Footprint
         ensures { λ r. ⌜ (r ≡ printed kind key action) × Narrow (key .pattern) ⌝ }
     {
-        let bits = key.pattern.bits();
+        let bits = Bits::of(key.pattern);
         Footprint {
             kind,
             priority: key.priority,
@@ -63,7 +64,7 @@ impl Footprint {
     fn of_match(kind: EffectKind, m: Match) -> Footprint
         ensures { λ r. ⌜ (r ≡ printed kind (at 0 m) 0) × Narrow m ⌝ }
     {
-        let bits = m.bits();
+        let bits = Bits::of(m);
         Footprint {
             kind,
             priority: 0,
@@ -76,7 +77,7 @@ impl Footprint {
         ensures { λ r. ⌜ (r ≡ footprintOf effect) × NarrowEffect effect ⌝ }
     {
         match effect {
-            Effect::Pkt(p) => Footprint::of_match(EffectKind::Pkt, p.exactly()),
+            Effect::Pkt(p) => Footprint::of_match(EffectKind::Pkt, exactly(p)),
             Effect::Add(k, a) => Footprint::of_key(EffectKind::Add, k, a.code()),
             Effect::Addc(k, a) => Footprint::of_key(EffectKind::Addc, k, a.code()),
             Effect::Modn(k, a) => Footprint::of_key(EffectKind::Modn, k, a.code()),

@@ -10,5 +10,3 @@ pub mod Orders
 pub mod Entries
 pub mod TableOrder
 pub mod SameKey
-pub mod Words
-pub mod ByWords

@@ -4,4 +4,3 @@ pub mod Orders
 pub mod Entries
 pub mod TableOrder
 pub mod Inner
-pub mod InnerBits

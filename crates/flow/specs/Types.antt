@@ -7,5 +7,3 @@ pub use Rattle.flow.specs.declared.action.Action.{Action}
 pub use Rattle.flow.specs.declared.entry.Key.{Key}
 pub use Rattle.flow.specs.declared.entry.Entry.{Entry}
 pub use Rattle.flow.specs.declared.ordering.Ordering.{Ordering}
-pub use Rattle.flow.specs.declared.bits.Word.{Word}
-pub use Rattle.flow.specs.declared.bits.Bits.{Bits}

@@ -1,12 +1,10 @@
 // A field of a match that is `*` or one number.
-use crate::bits::Word;
 use crate::ordering::Ordering;
 ghost use mathlib.Core.Path.{_≡_};
 ghost use Rattle.flow.specs.Matches.{exactFits, exactOverlaps, exactWithin};
 ghost use Rattle.flow.specs.Entries.{exactRank};
 ghost use Rattle.flow.specs.Inner.{sameExact};
 ghost use Rattle.flow.specs.Orders.{orderOf, thenBy};
-ghost use Rattle.flow.specs.InnerBits.{exactWord, InBits};
 
 pub enum Exact {
     Any,
@@ -70,18 +68,5 @@ impl Exact {
         ensures { λ r. ⌜ r ≡ thenBy (orderOf (exactRank self) (exactRank other)) next ⌝ }
     {
         crate::ordering::order_of(self.rank(), other.rank(), next)
-    }
-
-    // All 16 bits of a number count, and none of `*`.
-    pub fn word(self) -> Word
-        ensures { λ r. ⌜ (r ≡ exactWord self) × InBits 16 r ⌝ }
-    {
-        match self {
-            Exact::Any => Word { value: 0, mask: 0 },
-            Exact::Is(a) => Word {
-                value: a as u64,
-                mask: 65535,
-            },
-        }
     }
 }

@@ -1,7 +1,6 @@
 // Matches, keys, entries and packets: what a packet fits, when two matches overlap, when one lies within another, and the
 // order of a flow table.
 pub mod action;
-pub mod bits;
 pub mod entry;
 pub mod exact;
 pub mod matching;
@@ -9,8 +8,6 @@ pub mod ordering;
 pub mod prefix;
 
 pub use action::Action;
-pub use bits::Bits;
-pub use bits::Word;
 pub use entry::Entry;
 pub use entry::Key;
 pub use exact::Exact;

@@ -1,6 +1,4 @@
 // A match of seven fields, and the packet that it is held against.
-use crate::bits::Bits;
-use crate::bits::Word;
 use crate::exact::Exact;
 use crate::ordering::Ordering;
 use crate::prefix::Prefix;
@@ -8,7 +6,6 @@ ghost use mathlib.Core.Path.{_≡_};
 ghost use Rattle.flow.specs.Matches.{fits, overlaps, within, clear};
 ghost use Rattle.flow.specs.Entries.{matchOrder};
 ghost use Rattle.flow.specs.Inner.{sameMatch};
-ghost use Rattle.flow.specs.InnerBits.{firstWord, secondWord, thirdWord, bitsOf, exactly, NarrowFirst, NarrowSecond, NarrowThird, Narrow};
 
 pub struct Match {
     pub port: Exact,
@@ -136,78 +133,5 @@ impl Match {
         let by_src = self.src.order(other.src, by_dst);
         let by_vlan = vlan.order(its_vlan, by_src);
         port.order(its_port, by_vlan)
-    }
-
-    fn first_word(self) -> Word
-        ensures { λ r. ⌜ (r ≡ firstWord self) × NarrowFirst self ⌝ }
-    {
-        let port = self.port;
-        let vlan = self.vlan;
-        let a = port.word();
-        let b = vlan.word();
-        let c = self.src.word();
-        let high = a.beside(b, 16);
-        high.beside(c, 32)
-    }
-
-    fn second_word(self) -> Word
-        ensures { λ r. ⌜ (r ≡ secondWord self) × NarrowSecond self ⌝ }
-    {
-        let proto = self.proto;
-        let sport = self.sport;
-        let a = self.dst.word();
-        let b = proto.word();
-        let c = sport.word();
-        let low = b.beside(c, 16);
-        a.beside(low, 32)
-    }
-
-    fn third_word(self) -> Word
-        ensures { λ r. ⌜ (r ≡ thirdWord self) × NarrowThird self ⌝ }
-    {
-        let dport = self.dport;
-        let a = self.src.length_word();
-        let b = self.dst.length_word();
-        let c = dport.word();
-        let high = a.beside(b, 8);
-        high.beside(c, 16)
-    }
-
-    pub fn bits(self) -> Bits
-        ensures { λ r. ⌜ (r ≡ bitsOf self) × Narrow self ⌝ }
-    {
-        let first = self.first_word();
-        let second = self.second_word();
-        let third = self.third_word();
-        Bits {
-            first,
-            second,
-            third,
-        }
-    }
-}
-
-impl Packet {
-    // The match that just this packet fits.
-    pub fn exactly(self) -> Match
-        ensures { λ r. ⌜ r ≡ exactly self ⌝ }
-    {
-        let src = Prefix {
-            value: self.src,
-            length: 32,
-        };
-        let dst = Prefix {
-            value: self.dst,
-            length: 32,
-        };
-        Match {
-            port: Exact::Is(self.port),
-            vlan: Exact::Is(self.vlan),
-            src,
-            dst,
-            proto: Exact::Is(self.proto),
-            sport: Exact::Is(self.sport),
-            dport: Exact::Is(self.dport),
-        }
     }
 }

@@ -1,12 +1,10 @@
 // An IPv4 prefix, compared by bit masks.
-use crate::bits::Word;
 use crate::ordering::Ordering;
 ghost use mathlib.Core.Path.{_≡_};
 ghost use Prim.Native.Nat.{_-_, min};
 ghost use Rattle.flow.specs.Matches.{maskOf, prefixFits, prefixOverlaps, prefixWithin, prefixClear};
 ghost use Rattle.flow.specs.Inner.{sameLeading, samePrefix};
 ghost use Rattle.flow.specs.Orders.{orderOf, thenBy};
-ghost use Rattle.flow.specs.InnerBits.{prefixWord, lengthWord, InBits};
 
 pub struct Prefix {
     pub value: u32,
@@ -88,26 +86,5 @@ impl Prefix {
     {
         let by_length = crate::ordering::order_of(self.length as u32, other.length as u32, next);
         crate::ordering::order_of(self.value, other.value, by_length)
-    }
-
-    // The leading bits of the address count.
-    pub fn word(self) -> Word
-        ensures { λ r. ⌜ (r ≡ prefixWord self) × InBits 32 r ⌝ }
-    {
-        let m = mask(self.length);
-        Word {
-            value: self.value as u64,
-            mask: m as u64,
-        }
-    }
-
-    // The length: none of its bits count, but where two matches are the same it is too.
-    pub fn length_word(self) -> Word
-        ensures { λ r. ⌜ (r ≡ lengthWord self) × InBits 8 r ⌝ }
-    {
-        Word {
-            value: self.length as u64,
-            mask: 0,
-        }
     }
 }

@@ -1,5 +1,5 @@
 use mathlib.Core.Path.{ap, subst, _∙_}
-use Rattle.flow.specs.InnerBits.{Narrow}
+use Rattle.flow_bits.specs.Inner.{Narrow}
 use Rattle.commuting.specs.Types.{Match, EffectKind}
 use Rattle.commuting.specs.Commuting.{at}
 use Rattle.commuting.specs.InnerFootprints.{printed}

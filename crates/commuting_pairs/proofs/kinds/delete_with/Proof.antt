@@ -10,9 +10,9 @@ delete-with-spec =
     tie.close
     (tie.spec (λ c. search needs) (λ c. search needs) (λ c κs. search needs) (λ c. search needs) (λ c κs. search needs) (λ c. search needs) (λ c κs. search needs) (λ c. search needs) (λ c κs. search needs) (λ c. search needs) (λ c. search needs)
     (λ c. in-arm (λ x. delnBy x (c .before .before .args .j) (c .before .before .args .k)) (c .enum-told .given .1) refl)
-    (λ c. in-arm (λ x. delnBy x (c .before .before .before .args .j) (c .before .before .before .args .k)) (c .before .enum-told2 .given .1) (c .apart .ensures))
-    (λ c. in-arm (λ x. delnBy x (c .before .before .before .args .j) (c .before .before .before .args .k)) (c .before .enum-told3 .given .1) (c .outside .ensures))
-    (λ c. in-arm (λ x. delnBy x (c .before .before .before .args .j) (c .before .before .before .args .k)) (c .before .enum-told4 .given .1) (c .apart2 .ensures))
-    (λ c. in-arm (λ x. delnBy x (c .before .before .before .args .j) (c .before .before .before .args .k)) (c .before .enum-told5 .given .1) (c .apart3 .ensures))
+    (λ c. in-arm (λ x. delnBy x (c .before .before .before .args .j) (c .before .before .before .args .k)) (c .before .enum-told2 .given .1) (search needs))
+    (λ c. in-arm (λ x. delnBy x (c .before .before .before .args .j) (c .before .before .before .args .k)) (c .before .enum-told3 .given .1) (search needs))
+    (λ c. in-arm (λ x. delnBy x (c .before .before .before .args .j) (c .before .before .before .args .k)) (c .before .enum-told4 .given .1) (search needs))
+    (λ c. in-arm (λ x. delnBy x (c .before .before .before .args .j) (c .before .before .before .args .k)) (c .before .enum-told5 .given .1) (search needs))
     (λ c. in-arm (λ x. delnBy x (c .before .before .args .j) (c .before .before .args .k)) (c .enum-told6 .given .1) refl)
     (λ c. in-arm (λ x. delnBy x (c .before .before .args .j) (c .before .before .args .k)) (c .enum-told7 .given .1) refl))

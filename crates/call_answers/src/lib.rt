@@ -3,9 +3,11 @@ pub mod list;
 pub mod normal;
 pub mod page;
 pub mod replay;
+pub mod trials;
 
 pub use list::Counts;
 pub use list::ListAnswer;
 pub use normal::NormalAnswer;
 pub use page::PageAnswer;
 pub use replay::ReplayAnswer;
+pub use trials::TrialsAnswer;

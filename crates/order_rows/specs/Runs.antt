@@ -2,7 +2,9 @@
 use mathlib.Core.Option.{Option, none, some}
 use mathlib.Core.List.{List}
 use Prim.Native.Nat.{ℕ}
+use lib.ListN.{length}
 use Rattle.trace_events.specs.Events.{eventAt}
+use Rattle.order_meaning.specs.Orders.{from}
 use Rattle.order_rows.specs.Types.{Operation, Answer, Event}
 
 -- what event i does
@@ -13,3 +15,7 @@ operationAt es i = eventAt es i .operation
 abbrev pub givenOr : Answer → Option Answer → Answer
 givenOr a none = a
 givenOr a (some b) = b
+
+-- the recorded order of a trace's events: 0, 1, 2 and so on
+abbrev pub recorded : List Event → List ℕ
+recorded es = from 0 (length es)

@@ -45,6 +45,10 @@ returned (Refusal.AnswersShort needed) = refusalRow 33 needed Source.Neither
 returned Refusal.TooManyEntries = refusalRow 41 0 Source.Neither
 -- page buffer too short
 returned (Refusal.PageShort needed) = refusalRow 51 needed Source.Neither
+-- the orders' length is no multiple of the event count
+returned Refusal.OrdersUneven = refusalRow 52 0 Source.Neither
+-- byte buffer too short, a byte an order
+returned (Refusal.TrialsShort needed) = refusalRow 53 needed Source.Neither
 
 abbrev pub numberOf : Refusal → ℕ
 numberOf r = returned r .number

@@ -25,6 +25,8 @@ pub enum Refusal {
     AnswersShort(usize),
     TooManyEntries,
     PageShort(usize),
+    OrdersUneven,
+    TrialsShort(usize),
 }
 
 // What a check answers: accepted, or what is refused.
@@ -93,6 +95,8 @@ impl Refusal {
             Refusal::AnswersShort(needed) => row(33, needed, Source::Neither),
             Refusal::TooManyEntries => row(41, 0, Source::Neither),
             Refusal::PageShort(needed) => row(51, needed, Source::Neither),
+            Refusal::OrdersUneven => row(52, 0, Source::Neither),
+            Refusal::TrialsShort(needed) => row(53, needed, Source::Neither),
         }
     }
 }

@@ -14,8 +14,8 @@ use Rattle.tables_text.proofs.Accepted.{accepted-table}
 use Rattle.order_check.specs.Schedule.{checkOrder}
 use Rattle.order_check.proofs.Accepted.{order-accepted-iff, recorded-accepted}
 use Rattle.replay_agreement.specs.Types.{Event, Row}
-use Rattle.replay_agreement.specs.Allowed.{recorded, Allowed}
-use Rattle.order_rows.specs.Runs.{operationAt}
+use Rattle.replay_agreement.specs.Allowed.{Allowed}
+use Rattle.order_rows.specs.Runs.{operationAt, recorded}
 use Rattle.tables_normal.specs.Normal.{tablesText}
 use Rattle.replay_call.specs.Replay.{answerLines, textsOf}
 use Rattle.replay_call.proofs.Theorems.{only-rooms}

@@ -14,8 +14,9 @@ use Rattle.list_pairs.proofs.Theorems.{list-members}
 use Rattle.trace_text.specs.TraceText.{readTrace}
 use Rattle.trace_text.proofs.Accepted.{trace-accepted-iff, lines-length}
 use Rattle.order_check.proofs.Accepted.{stands-from, recorded-order, recorded-keeps}
+use Rattle.order_rows.specs.Runs.{recorded}
 use Rattle.replay_agreement.specs.Types.{Event}
-use Rattle.replay_agreement.specs.Allowed.{recorded, Allowed}
+use Rattle.replay_agreement.specs.Allowed.{Allowed}
 
 pub recorded-allowed : (es : List Event) → Allowed es (recorded es)
 recorded-allowed es = record {

@@ -17,9 +17,9 @@ use Rattle.list_pairs.proofs.Theorems.{list-members}
 use Rattle.tables_text.specs.TableText.{readTables, HoldSame}
 use Rattle.tables_normal.specs.Normal.{tablesText}
 use Rattle.tables_normal.proofs.Theorems.{normal-accepted, same-normal}
-use Rattle.order_rows.specs.Runs.{operationAt, givenOr}
+use Rattle.order_rows.specs.Runs.{operationAt, givenOr, recorded}
 use Rattle.replay_agreement.specs.Types.{Answer, Event, Row}
-use Rattle.replay_agreement.specs.Allowed.{recorded, Allowed}
+use Rattle.replay_agreement.specs.Allowed.{Allowed}
 use Rattle.replay_answers.specs.Answers.{answersText}
 use Rattle.replay_call.specs.Replay.{answerLines, textsOf}
 

@@ -4,14 +4,10 @@ use mathlib.Core.Bool.{true}
 use mathlib.Core.List.{List, List·Memᴰ}
 use Prim.Native.Nat.{ℕ}
 use lib.ListN.{length}
-use Rattle.order_meaning.specs.Orders.{from, stands, IsOrderOf}
+use Rattle.order_meaning.specs.Orders.{stands, IsOrderOf}
 use Rattle.list_pairs.specs.List.{Pair, listOf}
 use Rattle.order_check.specs.Schedule.{KeepsOrder}
 use Rattle.replay_agreement.specs.Types.{Event}
-
--- the recorded order of a trace's events: 0, 1, 2 and so on
-abbrev pub recorded : List Event → List ℕ
-recorded es = from 0 (length es)
 
 -- it has every pair of the list in recorded order: the lower event stands first
 abbrev pub HasListed : List Event → List ℕ → Type 0

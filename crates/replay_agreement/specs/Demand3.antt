@@ -10,10 +10,10 @@ use Rattle.order_meaning.specs.Tables.{endTables, answers}
 use Rattle.rows.specs.Rows.{tablesOf}
 use Rattle.tables_text.specs.TableText.{readTables, HoldSame}
 use Rattle.tables_normal.specs.Normal.{tablesText}
-use Rattle.order_rows.specs.Runs.{operationAt}
+use Rattle.order_rows.specs.Runs.{operationAt, recorded}
 use Rattle.replay_call.specs.Replay.{answerLines}
 use Rattle.replay_agreement.specs.Types.{Event, Row}
-use Rattle.replay_agreement.specs.Allowed.{recorded, Allowed}
+use Rattle.replay_agreement.specs.Allowed.{Allowed}
 use Rattle.replay_agreement.specs.Buffers.{LongEnough, Writes}
 
 pub record Demand3 (s : List ℕ) (es : List Event) : Type 0 where

@@ -1,2 +1,3 @@
 pub mod Agreeing
 pub mod Counting
+pub mod OnRows

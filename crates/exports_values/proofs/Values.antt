@@ -2,9 +2,9 @@
 use Prim.Native.Nat.{ℕ}
 use mathlib.Core.List.{List, []}
 use mathlib.Core.Path.{_≡_, refl}
-use Rattle.exports_values.specs.Types.{Refusal, Counts, ListAnswer, NormalAnswer, PageAnswer, ReplayAnswer, Refused}
+use Rattle.exports_values.specs.Types.{Refusal, Counts, ListAnswer, NormalAnswer, PageAnswer, ReplayAnswer, TrialsAnswer, Refused}
 use Rattle.refusals.specs.Refused.{nothingRefused, refusedAs}
-use Rattle.exports_values.specs.Values.{listAs, normalAs, pageAs, replayAs}
+use Rattle.exports_values.specs.Values.{listAs, normalAs, pageAs, replayAs, trialsAs}
 
 pub list-counted : (trace : List ℕ) {answer : ListAnswer} {c : Counts} {x : Refused} → answer ≡ ListAnswer.Counts c → x ≡ nothingRefused
     → record { refused = x; pairs = c .pairs; ordered = c .ordered; commuting = c .commuting; listed = c .listed } ≡ listAs trace answer
@@ -45,3 +45,13 @@ pub replay-refused : (trace tables : List ℕ) {answer : ReplayAnswer} {r : Refu
     → record { refused = x; tables = 0; answers = 0 } ≡ replayAs trace tables answer
 unfolding replayAs
 replay-refused trace tables e h = rw (e, h) refl
+
+pub trials-counted : (trace tables : List ℕ) {answer : TrialsAnswer} {n : ℕ} {x : Refused} → answer ≡ TrialsAnswer.Orders n → x ≡ nothingRefused
+    → record { refused = x; orders = n } ≡ trialsAs trace tables answer
+unfolding trialsAs
+trials-counted trace tables e h = rw (e, h) refl
+
+pub trials-refused : (trace tables : List ℕ) {answer : TrialsAnswer} {r : Refusal} {x : Refused} → answer ≡ TrialsAnswer.Refused r → x ≡ refusedAs trace tables r
+    → record { refused = x; orders = 0 } ≡ trialsAs trace tables answer
+unfolding trialsAs
+trials-refused trace tables e h = rw (e, h) refl

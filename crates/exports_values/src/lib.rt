@@ -3,6 +3,7 @@ pub mod list; // the list of a trace
 pub mod normal; // the normal form of a table text
 pub mod page; // the page of a trace
 pub mod replayed; // an order of a trace's events, replayed
+pub mod trials; // many orders of a trace's events, tried
 
 pub use list::Listed;
 pub use list::list_as;
@@ -12,3 +13,5 @@ pub use page::Paged;
 pub use page::page_as;
 pub use replayed::Replayed;
 pub use replayed::replay_as;
+pub use trials::Tried;
+pub use trials::trials_as;

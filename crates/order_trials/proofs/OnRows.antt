@@ -11,28 +11,23 @@ use lib.Dec.{eqb}
 use lib.ListN.{length}
 use Rattle.basics.specs.Searches.{has}
 use Rattle.basics.proofs.Booleans.{split}
-use Rattle.flow_table.specs.Switches.{Tables, switchOf, stepOf}
+use Rattle.flow_table.specs.Switches.{Tables, stepOf}
 use Rattle.order_meaning.specs.Orders.{IsOrderOf}
 use Rattle.order_meaning.specs.Tables.{endTables, answers}
-use Rattle.rows.specs.Rows.{SortedRows, tableOf, tablesOf}
+use Rattle.rows.specs.Rows.{tableOf, tablesOf}
 use Rattle.rows.proofs.TablesOf.{same-tables}
 use Rattle.order_rows.specs.Runs.{operationAt, givenOr}
 use Rattle.order_rows.specs.Inner.{runRows, answersIn}
 use Rattle.order_rows.proofs.EndTables.{run-tables, run-answers, run-sorted, run-beyond}
 use Rattle.order_trials.specs.Types.{Answer, Event, Operation, Row}
 use Rattle.order_trials.specs.Same.{agreeing}
+use Rattle.order_trials.specs.Inner.{Held}
 use Rattle.order_trials.proofs.Agreeing.{agreeing-iff}
 
 -- an event that stands in the order has an answer, silent or not
 given : (ev : ℕ → Operation) (o : List ℕ) (start : Tables) (i : ℕ) → has i o ≡ true → answers ev o start i ≡ some (givenOr Answer.Silent (answers ev o start i))
 given ev [] start i h = absurd (false≢true h)
 given ev (j ∷ o) start i h = split (eqb i j) (λ u. rw u refl) (λ u. rw u (given ev o (stepOf (ev j) start) i (rw u at h)))
-
--- the rows of tables of the switches 0 to 15
-pub record Held (es : List Event) (rs : List Row) : Type 0 where
-  pub sorted : SortedRows rs
-  pub switches : (i : ℕ) → switchOf (operationAt es i) < 16
-  pub beyond : (w : ℕ) → 16 ≤ w → tableOf w rs ≡ []
 
 module _ (es : List Event) (rs : List Row) (held : Held es rs) (o q : List ℕ) (order : IsOrderOf (length es) o) (other : IsOrderOf (length es) q) where
   -- what is left on switch w, as rows and as tables

@@ -1,3 +1,4 @@
 pub mod Types
 pub mod Same
 pub mod Trials
+pub mod Inner

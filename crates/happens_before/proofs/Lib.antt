@@ -1,6 +1,5 @@
 pub mod Chains
 pub mod Barriers
-pub mod SetLaws
 pub mod RowLaws
 pub mod SideNotes
 pub mod SearchStart

@@ -10,15 +10,16 @@ use lib.Dec.{eqb, ltb}
 use lib.ListN.{length, getD, set, replicate, length-replicate, getD-replicate, List·getD-eq-default}
 use lib.Seq.{getD-set-same, getD-set-other}
 use borrow.Author.Tests.{lt-ltb, le-ltb}
+use Rattle.bit_sets.specs.Inner.{member}
+use Rattle.bit_sets.proofs.Members.{member-none, member-nil}
 use Rattle.trace_events.specs.Events.{eventsOf, noEvent}
 use Rattle.basics.specs.Searches.{anyBelow}
 use Rattle.trace_events.specs.Precedence.{precedes}
 use Rattle.trace_events.proofs.TraceLaws.{length-events, event-at}
 use Rattle.happens_before.specs.Types.{Event, Trace}
 use Rattle.happens_before.specs.Causality.{step, before, through}
-use Rattle.happens_before.specs.Inner.{member, noMembers, bit, HappensBefore}
+use Rattle.happens_before.specs.Inner.{noMembers, bit, HappensBefore}
 use Rattle.happens_before.proofs.Chains.{before-end}
-use Rattle.happens_before.proofs.SetLaws.{member-none, member-nil}
 
 -- the rows of the events below n are filled, and the others are empty
 abbrev pub Filled : List Event → ℕ → List (List ℕ) → Type 0
@@ -66,6 +67,6 @@ unfolding bit
 filled-none es n i j = rw (le-ltb j 0 (omega arith)) (none (decLt j n))
   where
     none : Dec (j < n) → member (getD (replicate n noMembers) j []) i ≡ false
-    none (yes m) = ap (λ row. member row i) (getD-replicate n j noMembers [] m) ∙ member-none i
+    none (yes m) = ap (λ row. member row i) (getD-replicate n j noMembers [] m) ∙ member-none 4 i
     none (no ge) =
         ap (λ row. member row i) (List·getD-eq-default (replicate n noMembers) [] {n = j} (omega (arith, length-replicate n noMembers))) ∙ member-nil i

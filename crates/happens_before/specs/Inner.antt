@@ -2,19 +2,11 @@
 use mathlib.Core.Path.{_≡_}
 use mathlib.Core.Bool.{Bool, _||_, cond}
 use mathlib.Core.List.{List, [], _∷_}
-use Prim.Native.Nat.{ℕ, _/_, _%_, _^_}
-use lib.Dec.{eqb}
+use Prim.Native.Nat.{ℕ}
 use lib.ListN.{getD}
+use Rattle.bit_sets.specs.Inner.{member}
 use Rattle.happens_before.specs.Types.{Side, Event}
 use Rattle.happens_before.specs.Causality.{before}
-
--- bit k of the word x is 1
-unfoldable pub wordBit : ℕ → ℕ → Bool
-wordBit x k = eqb (x / 2 ^ k % 2) 1
-
--- j is in the set: bit j % 64 of word j / 64
-unfoldable pub member : List ℕ → ℕ → Bool
-member row j = wordBit (getD row (j / 64) 0) (j % 64)
 
 -- the empty set
 abbrev pub noMembers : List ℕ

@@ -3,7 +3,7 @@ ghost use mathlib.Core.Path.{_≡_};
 ghost use mathlib.Core.Bool.{_&&_, _||_};
 ghost use Prim.Native.Nat.{ℕ};
 ghost use lib.Dec.{eqb};
-ghost use Rattle.happens_before.specs.Inner.{member};
+ghost use Rattle.bit_sets.specs.Inner.{member};
 
 // j is in the set.
 pub fn contains(row: [u64; 4], j: u8) -> bool

@@ -5,19 +5,19 @@ use native.Mathlib.Omega.{arith}
 use mathlib.Core.Path.{_≡_, refl, sym, ap, _∙_}
 use lib.ListN.{length, length-set}
 use borrow.Author.Needs.{needs}
+use Rattle.bit_sets.specs.Inner.{member}
+use Rattle.bit_sets.proofs.Members.{member-none}
 use Rattle.trace_events.specs.Events.{eventsOf}
 use Rattle.basics.specs.Searches.{anyBelow}
 use Rattle.trace_events.proofs.TraceLaws.{length-events}
 use Rattle.basics.proofs.Arrays.{length-mapped, noted-more}
 use Rattle.basics.proofs.Booleans.{was, was-false}
 use Rattle.trace_events.specs.Inner.{noSide}
-use Rattle.happens_before.specs.Inner.{member}
 use Rattle.happens_before.proofs.RowLaws.{Filled, joined, filled-at, filled-none, filled-more, filled-all}
 use Rattle.happens_before.proofs.SideNotes.{Noted, sideAt, a-step, token-step, no-step, passed-by}
 use Rattle.happens_before.proofs.SearchStart.{Barred, barred-more, from-within, none-below}
 use Rattle.happens_before.proofs.Chains.{row-union}
 use Rattle.happens_before.specs.Causality.{through}
-use Rattle.happens_before.proofs.SetLaws.{member-none}
 use Rattle.happens_before.proofs.closure.happens_before.Statement.{statement}
 use Rattle.happens_before.proofs.closure.happens_before.Tie as tie
 
@@ -45,7 +45,7 @@ loop2-holds c =
     let fits : t .len ≤ length (t .events) = omega (arith, o .before .before .pre) in
     let from = c .search-from .ensures in (
       rw from (from-within _ _ _),
-      λ i. member-none i ∙ none-below t fits (o .loop .j) (omega arith) (s .side .ensures) (o .loop .inv .6) i ∙ ap (anyBelow (through (eventsOf t) i _)) (sym from),
+      λ i. member-none 4 i ∙ none-below t fits (o .loop .j) (omega arith) (s .side .ensures) (o .loop .inv .6) i ∙ ap (anyBelow (through (eventsOf t) i _)) (sym from),
     )
 
 loop2-again : tie.Need-loop2-again Inv-loop2 μ-loop2 Inv-loop μ-loop

@@ -1,5 +1,5 @@
 use borrow.Author.Needs.{needs}
-use Rattle.happens_before.specs.Inner.{member, wordBit}
+use Rattle.bit_sets.specs.Inner.{member, wordBit}
 use Rattle.happens_before.proofs.sets.contains.Statement.{statement}
 use Rattle.happens_before.proofs.sets.contains.Tie as tie
 

@@ -55,6 +55,9 @@ extern "C" {
  *    22        order: event put before one that happens before it  lowest such position
  *    31 32 33  buffer too short: list / tables / answers           bytes needed
  *    51        buffer too short: page                              bytes needed
+ *    52        orders: length not a multiple of the event count,
+ *              or not 0 where there is no event                    0
+ *    53        buffer too short: a byte for each order             bytes needed
  *
  * (41, over 512 entries held, cannot happen.) Of several causes the first in document 01's order of
  * checks is told. Lines and positions count from 0.
@@ -95,6 +98,17 @@ struct gellunka_replayed {
     size_t tables;  /* length of the end tables */
     size_t answers; /* length of the answers */
 };
+
+/* The answer of gellunka_try_orders. After a refusal the number is 0. */
+struct gellunka_tried {
+    struct gellunka_refused refused;
+    size_t orders; /* how many orders there are, and how many bytes were written */
+};
+
+/* What gellunka_try_orders writes for an order. */
+#define GELLUNKA_ORDER_AGREES 0  /* its end tables and its answers equal those of the recorded order */
+#define GELLUNKA_ORDER_DIFFERS 1 /* either differs */
+#define GELLUNKA_ORDER_REFUSED 2 /* the order itself is refused, by 21 or 22 */
 
 /*
  * The list of racing pairs of a trace.
@@ -158,6 +172,20 @@ struct gellunka_replayed gellunka_replay(const uint8_t *trace, size_t trace_leng
                                          size_t tables_length, const uint8_t *order, size_t order_length,
                                          uint8_t *tables_out, size_t tables_out_length, uint8_t *answers_out,
                                          size_t answers_out_length);
+
+/*
+ * Which of many orders of a trace's events do to the tables of a text what the recorded order does. The orders stand
+ * end to end, each with one byte for each event, its number. There may be none.
+ *
+ * Refuses by 1 to 8, 11 to 16, 52 and 53, in this order, and leaves `out` as it was then. Otherwise the first `orders`
+ * bytes of `out` are one byte for each order, in their order; the bytes after them are as they were. The byte is
+ * GELLUNKA_ORDER_REFUSED exactly if gellunka_replay refuses the order by 21 or 22, GELLUNKA_ORDER_AGREES exactly if it
+ * writes for it, into long enough buffers, what it writes for the recorded order, and else GELLUNKA_ORDER_DIFFERS. No
+ * other byte is written. An order that keeps happens-before and has every listed pair in recorded order agrees.
+ */
+struct gellunka_tried gellunka_try_orders(const uint8_t *trace, size_t trace_length, const uint8_t *tables,
+                                          size_t tables_length, const uint8_t *orders, size_t orders_length,
+                                          uint8_t *out, size_t out_length);
 
 #ifdef __cplusplus
 }

@@ -1,6 +1,8 @@
 //! The functions of the static library, as `include/gellunka.h` declares them, in safe form. Nothing checks
 //! these declarations against their source, `crates/exports`: the tests do.
 
+use crate::Trial;
+
 /// `struct gellunka_refused`.
 #[repr(C)]
 #[derive(Clone, Copy)]
@@ -43,6 +45,13 @@ pub struct Replayed {
     pub answers: usize,
 }
 
+/// `struct gellunka_tried`.
+#[repr(C)]
+pub struct Tried {
+    pub refused: Refused,
+    pub orders: usize,
+}
+
 extern "C" {
     fn gellunka_list_races(trace: *const u8, trace_length: usize, out: *mut u8, out_length: usize) -> Listed;
     fn gellunka_page(trace: *const u8, trace_length: usize, out: *mut u8, out_length: usize) -> Paged;
@@ -64,6 +73,16 @@ extern "C" {
         answers_out: *mut u8,
         answers_out_length: usize,
     ) -> Replayed;
+    fn gellunka_try_orders(
+        trace: *const u8,
+        trace_length: usize,
+        tables: *const u8,
+        tables_length: usize,
+        orders: *const u8,
+        orders_length: usize,
+        out: *mut u8,
+        out_length: usize,
+    ) -> Tried;
 }
 
 pub fn list_races(trace: &[u8], out: &mut [u8]) -> Listed {
@@ -102,6 +121,22 @@ pub fn replay(
             tables_out.len(),
             answers_out.as_mut_ptr(),
             answers_out.len(),
+        )
+    }
+}
+
+pub fn try_orders(trace: &[u8], tables: &[u8], orders: &[u8], out: &mut [Trial]) -> Tried {
+    // SAFETY: as above. A `Trial` is one byte, 0, 1 or 2, and the call is proved to write no other bytes there.
+    unsafe {
+        gellunka_try_orders(
+            trace.as_ptr(),
+            trace.len(),
+            tables.as_ptr(),
+            tables.len(),
+            orders.as_ptr(),
+            orders.len(),
+            out.as_mut_ptr().cast(),
+            out.len(),
         )
     }
 }

@@ -2,7 +2,8 @@
 //!
 //! Switches and controller record their events as a trace. [`list_races`] lists the pairs of events on one
 //! switch whose order was open and matters, [`page`] writes that list for paper, [`normalise`] brings the text of
-//! flow tables into a normal form, and [`replay`] tells what an order of the events does to given tables.
+//! flow tables into a normal form, [`replay`] tells what an order of the events does to given tables, and
+//! [`try_orders`] which of many orders do what the recorded one does.
 //!
 //! The work is done by a static library whose source (`crates/exports` of the repository) is proved against
 //! definitions of the specification, document 01 (`docs/SPECIFICATION.md`). What is said below of results,
@@ -37,6 +38,13 @@
 //!     format!("{:<9}{:>51}\n", "listed", 1),
 //! ];
 //! assert_eq!(page[..length], *lines.concat().as_bytes());
+//!
+//! // The recorded order, the two rules exchanged, the packet before its rule, a rule before what sent it.
+//! let orders = [[0, 1, 2, 3, 4], [0, 1, 3, 2, 4], [0, 1, 2, 4, 3], [0, 2, 1, 3, 4]];
+//! let mut results = [gellunka::Trial::Refused; 4];
+//! assert_eq!(gellunka::try_orders(trace, b"", orders.as_flattened(), &mut results)?, 4);
+//! use gellunka::Trial::{Agrees, Differs, Refused};
+//! assert_eq!(results, [Agrees, Agrees, Differs, Refused]);
 //!
 //! let refusal = gellunka::list_races(b"ev=7 do=oth in=- out=-\n", &mut list).unwrap_err();
 //! assert_eq!(refusal.reason, gellunka::Reason::EventMisnumbered);
@@ -88,6 +96,18 @@ pub struct Lengths {
     pub tables: usize,
     /// Of the answers.
     pub answers: usize,
+}
+
+/// What [`try_orders`] tells of an order.
+#[derive(Clone, Copy, Debug, PartialEq, Eq, Hash)]
+#[repr(u8)]
+pub enum Trial {
+    /// Its end tables and its answers equal those of the recorded order.
+    Agrees = 0,
+    /// Either differs.
+    Differs = 1,
+    /// The order itself is refused, by 21 or 22.
+    Refused = 2,
 }
 
 /// Lists the racing pairs of a trace.
@@ -170,4 +190,26 @@ pub fn replay<'a>(
     let answer = ffi::replay(trace, tables, order, tables_out, answers_out);
     answer.refused.check(trace, tables)?;
     Ok(Lengths { tables: answer.tables, answers: answer.answers })
+}
+
+/// Tells which of many orders of a trace's events do to the tables of a text what the recorded order does, and gives
+/// the number of orders. The orders stand end to end, each with one byte for each event; there may be none.
+///
+/// `out` then starts with what is told of each order, in their order; the rest is as it was. An order is
+/// [`Trial::Refused`] exactly if [`replay`] refuses it by 21 or 22, and [`Trial::Agrees`] exactly if [`replay`] writes
+/// for it, into long enough buffers, what it writes for the recorded order. One that keeps happens-before and has every
+/// listed pair in recorded order agrees.
+///
+/// # Errors
+///
+/// Refuses by 1 to 8, 11 to 16, 52 and 53, in this order, and leaves `out` as it was then.
+pub fn try_orders<'a>(
+    trace: &'a [u8],
+    tables: &'a [u8],
+    orders: &[u8],
+    out: &mut [Trial],
+) -> Result<usize, Refusal<'a>> {
+    let answer = ffi::try_orders(trace, tables, orders, out);
+    answer.refused.check(trace, tables)?;
+    Ok(answer.orders)
 }

@@ -46,6 +46,10 @@ pub enum Reason {
     TooManyEntries,
     /// 51: the page's buffer is too short; the place is the number of bytes needed.
     PageShort,
+    /// 52: the length of the orders is not a multiple of the event count, or not 0 where there is no event.
+    OrdersUneven,
+    /// 53: the buffer for what is told of each order is too short; the place is the number of orders.
+    TrialsShort,
 }
 
 /// A refusal: why, where, and the refused line.
@@ -62,7 +66,7 @@ pub struct Refusal<'a> {
 }
 
 impl Reason {
-    const ALL: [(Reason, usize, &'static str); 21] = [
+    const ALL: [(Reason, usize, &'static str); 23] = [
         (Reason::TraceTooLong, 1, "trace over 65,535 bytes"),
         (Reason::TraceUnended, 2, "last byte of the trace is not LF"),
         (Reason::TraceTooManyLines, 3, "trace over 256 lines"),
@@ -84,6 +88,8 @@ impl Reason {
         (Reason::AnswersShort, 33, "answers buffer too short"),
         (Reason::TooManyEntries, 41, "over 512 entries held"),
         (Reason::PageShort, 51, "page buffer too short"),
+        (Reason::OrdersUneven, 52, "length of the orders not a multiple of the event count"),
+        (Reason::TrialsShort, 53, "buffer for the orders' results too short"),
     ];
 
     /// Document 01's number.

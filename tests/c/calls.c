@@ -114,12 +114,37 @@ static void replay(void) {
     expect(a.refused.number == 14 && a.refused.start == 0 && a.refused.length == 4, "malformed tables");
 }
 
+static void try_orders(void) {
+    /* The recorded order, the two rules exchanged, the packet before its rule, a rule too early, an event twice. */
+    const uint8_t orders[] = {0, 1, 2, 3, 4, 0, 1, 3, 2, 4, 0, 1, 2, 4, 3, 0, 2, 1, 3, 4, 0, 1, 2, 3, 3};
+    const uint8_t expected[] = {GELLUNKA_ORDER_AGREES, GELLUNKA_ORDER_AGREES, GELLUNKA_ORDER_DIFFERS,
+                                GELLUNKA_ORDER_REFUSED, GELLUNKA_ORDER_REFUSED};
+    uint8_t out[7];
+    memset(out, 9, sizeof out);
+    struct gellunka_tried a =
+        gellunka_try_orders(bytes(TRACE), strlen(TRACE), bytes(BAD), strlen(BAD), orders, 24, out, 0);
+    expect(a.refused.number == 14 && a.refused.start == 0 && a.refused.length == 4, "malformed tables before uneven orders");
+    a = gellunka_try_orders(bytes(TRACE), strlen(TRACE), bytes(""), 0, orders, 24, out, 0);
+    expect(a.refused.number == 52 && a.refused.place == 0 && a.orders == 0, "orders of an uneven length");
+    a = gellunka_try_orders(bytes(TRACE), strlen(TRACE), bytes(""), 0, orders, 25, out, 4);
+    expect(a.refused.number == 53 && a.refused.place == 5 && a.orders == 0, "too short for the orders");
+    a = gellunka_try_orders(bytes(""), 0, bytes(""), 0, orders, 1, out, sizeof out);
+    expect(a.refused.number == 52 && a.refused.place == 0 && a.orders == 0, "an order of no event");
+    expect(all_are(out, sizeof out, 9), "a refusal leaves the orders' buffer as it was");
+    a = gellunka_try_orders(bytes(""), 0, bytes(""), 0, orders, 0, out, 0);
+    expect(a.refused.number == 0 && a.orders == 0, "no order of no event");
+    a = gellunka_try_orders(bytes(TRACE), strlen(TRACE), bytes(""), 0, orders, sizeof orders, out, sizeof out);
+    expect(a.refused.number == 0 && a.orders == 5, "the orders are taken");
+    expect(memcmp(out, expected, 5) == 0 && all_are(out + 5, 2, 9), "a byte for each order");
+}
+
 int main(void) {
     list();
     packets();
     page();
     normalise();
     replay();
+    try_orders();
     printf(failures == 0 ? "C calls: ok\n" : "C calls: failed\n");
     return failures != 0;
 }

@@ -18,9 +18,10 @@ pub fn compare(row: &Row) {
         Input::Page(_) => "page",
         Input::Normalise(_) => "normalise",
         Input::Replay(..) => "replay",
+        Input::Orders(..) => "orders",
     };
     let [proved, peer] = sides(&row.input);
-    turns::compare(&format!("{call}, {}", row.name), TURNS, proved, peer);
+    turns::compare(&format!("{call}, {}", row.name), row.input.turns(TURNS), proved, peer);
 }
 
 /// The call of the proved library and that of the peer.
@@ -30,6 +31,7 @@ pub fn sides(input: &Input) -> [Call<'_>; 2] {
         Input::Page(trace) => one_text(trace, reference::PAGE_ROOM, gellunka::page, reference::page),
         Input::Normalise(tables) => one_text(tables, 65_535, gellunka::normalise, reference::normalise),
         Input::Replay(trace, tables) => replay(trace, tables),
+        Input::Orders(trace, tables, orders) => try_orders(trace, tables, orders),
     }
 }
 
@@ -57,6 +59,15 @@ fn replay<'a>(trace: &'a [u8], tables: &'a [u8]) -> [Call<'a>; 2] {
         Box::new(move || {
             used(reference::replay(black_box(trace), tables, &same, &mut their_end, &mut their_answers));
         }),
+    ]
+}
+
+fn try_orders<'a>(trace: &'a [u8], tables: &'a [u8], orders: &'a [u8]) -> [Call<'a>; 2] {
+    // Longer than any of these needs.
+    let (mut out, mut their_out) = (vec![gellunka::Trial::Refused; 1_000], vec![0; 1_000]);
+    [
+        Box::new(move || used(gellunka::try_orders(black_box(trace), tables, orders, &mut out))),
+        Box::new(move || used(reference::try_orders(black_box(trace), tables, orders, &mut their_out))),
     ]
 }
 

@@ -28,19 +28,20 @@ impl Processes {
     /// Prints the line of a row.
     pub fn compare(&self, row: &Row) {
         match &row.input {
-            Input::List(trace) => self.by_turns("racelist", "list", row.name, &[trace]),
-            Input::Page(trace) => self.by_turns("racepage", "page", row.name, &[trace]),
-            Input::Normalise(tables) => self.by_turns("normalise", "normalise", row.name, &[tables]),
-            Input::Replay(trace, tables) => {
-                self.by_turns("replay_trace", "replay", row.name, &[trace, tables]);
+            Input::List(trace) => self.by_turns("racelist", "list", row, &[trace]),
+            Input::Page(trace) => self.by_turns("racepage", "page", row, &[trace]),
+            Input::Normalise(tables) => self.by_turns("normalise", "normalise", row, &[tables]),
+            Input::Replay(trace, tables) => self.by_turns("replay_trace", "replay", row, &[trace, tables]),
+            Input::Orders(trace, tables, orders) => {
+                self.by_turns("replay_orders", "orders", row, &[trace, tables, orders]);
             }
         }
     }
 
     /// The project's program and the reference with its word, on files: one is standard input, several are
     /// arguments.
-    fn by_turns(&self, program: &str, word: &str, name: &str, inputs: &[&[u8]]) {
-        let name = format!("{program}, {name}");
+    fn by_turns(&self, program: &str, word: &str, row: &Row, inputs: &[&[u8]]) {
+        let name = format!("{program}, {}", row.name);
         let program = self.bin.join(program);
         if !program.exists() || !self.reference.exists() {
             println!("| {name} | not built | | |");
@@ -49,7 +50,7 @@ impl Processes {
         let files = self.files(inputs);
         turns::compare(
             &name,
-            TURNS,
+            row.input.turns(TURNS),
             || run(&mut Command::new(&program), &files),
             || run(Command::new(&self.reference).arg(word), &files),
         );

@@ -1,6 +1,9 @@
 //! What is measured.
 
-use cases::{tables, traces};
+use cases::orders::{accepted_orders, shuffled_orders};
+use cases::print::trace_text;
+use cases::{tables, traces, Random};
+use reference::happens_before;
 use reference::table::Origin::{Received, SentOut};
 
 /// A row of the tables: a call, or the process that makes it.
@@ -21,6 +24,19 @@ pub enum Input {
     Normalise(Vec<u8>),
     /// `replay` of a trace from a table text, in the recorded order.
     Replay(Vec<u8>, Vec<u8>),
+    /// `try_orders` of a trace from a table text, and the orders.
+    Orders(Vec<u8>, Vec<u8>, Vec<u8>),
+}
+
+impl Input {
+    /// How often a call or a process of this input is timed, where others are so often: those of many orders take as
+    /// long as many of theirs.
+    pub fn turns(&self, others: usize) -> usize {
+        match self {
+            Input::Orders(.., orders) if !orders.is_empty() => others / 20,
+            _ => others,
+        }
+    }
 }
 
 /// All rows.
@@ -50,5 +66,24 @@ pub fn rows() -> Vec<Row> {
         page("256 modifies of one key: 32,640 pairs listed", traces::all_racing_modifies()),
         list("128 `pout` with a barrier after each", traces::barriers_and_packets()),
         replay("256 `pout` onto 256 entries", traces::packets_to_the_last(SentOut)),
+        mixed("no order (floor)", 4, 64, 0),
+        adds("1,000 orders of 256 adds, empty tables", Vec::new()),
+        adds("1,000 orders of 256 adds onto 256 entries", tables::reversed()),
+        mixed("1,000 orders of 256 mixed events, 4 switches, onto 64 entries", 4, 64, 1_000),
+        mixed("100 orders of the same", 4, 64, 100),
+        mixed("1,000 orders of 256 mixed events, 1 switch, onto 256 entries", 1, 256, 1_000),
     ]
+}
+
+/// 1,000 random orders of adds of different keys. All are accepted.
+fn adds(name: &'static str, tables: Vec<u8>) -> Row {
+    let orders = shuffled_orders(&mut Random::from_seed(1), 256, 1_000);
+    Row { name, input: Input::Orders(traces::long_adds(), tables, orders) }
+}
+
+/// Random orders of events of all words that keep happens-before, and so are accepted.
+fn mixed(name: &'static str, switches: usize, lines: usize, orders: usize) -> Row {
+    let events = traces::mixed(switches);
+    let orders = accepted_orders(&mut Random::from_seed(2), &happens_before(&events), orders);
+    Row { name, input: Input::Orders(trace_text(&events), tables::mixed(switches, lines), orders) }
 }

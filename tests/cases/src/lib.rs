@@ -4,7 +4,7 @@
 //! - [`World`]: where the values of matches, packets, priorities and actions come from.
 //! - [`traces`], [`tables`]: valid texts, and the worst cases of the benchmark.
 //! - [`damage`]: faults put into a text, one or several that compete.
-//! - [`orders`]: all orders of few events, random allowed ones, damaged ones.
+//! - [`orders`]: all orders of few events, random allowed ones, damaged ones; many end to end.
 
 pub mod damage;
 pub mod orders;

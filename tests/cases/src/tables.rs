@@ -18,6 +18,11 @@ pub fn any_tables(random: &mut Random, world: World, length: usize) -> Vec<(u8, 
     lines
 }
 
+/// So many lines of the switches and values of [`crate::traces::mixed`].
+pub fn mixed(switches: usize, lines: usize) -> Vec<u8> {
+    tables_text(&any_tables(&mut Random::from_seed(9), World { wide: false, switches }, lines))
+}
+
 /// The n-th of the entries whose lines are longest, in table order.
 pub fn long_entry(n: u16) -> Entry {
     let prefix = Prefix { value: 0xffff_fff0, len: 30 };

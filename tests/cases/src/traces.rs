@@ -46,6 +46,13 @@ pub fn any_trace(random: &mut Random, world: World, length: usize) -> Vec<Event>
     events
 }
 
+/// 256 events of all words on some switches. Few tokens and barriers order them, so that many orders keep happens-before;
+/// matches often overlap or lie within each other.
+pub fn mixed(switches: usize) -> Vec<Event> {
+    // A seed from which few lines pass tokens and few are barriers.
+    any_trace(&mut Random::from_seed(9), World { wide: false, switches }, 256)
+}
+
 /// All token numbers that a trace may need, in a random order, with the least and the largest.
 fn token_numbers(random: &mut Random) -> Vec<u16> {
     let mut numbers: Vec<u16> = (0..600).chain(64_936..=65_535).collect();

@@ -2,7 +2,10 @@
 //! every refusal, and allowed orders agree with the recorded one.
 
 use cases::damage::damaged;
-use cases::orders::{all_orders, any_allowed, any_damaged, is_allowed};
+use cases::orders::{
+    accepted_orders, all_orders, any_allowed, any_damaged, any_orders, any_uneven, is_allowed,
+    shuffled_orders,
+};
 use cases::print::{tables_text, trace_text};
 use cases::tables::{self, any_tables};
 use cases::traces::{self, all_received, any_length, any_trace};
@@ -13,8 +16,8 @@ use reference::replay::recorded_order;
 use reference::table::Origin::{Received, SentOut};
 use reference::trace::Event;
 use reference::{
-    happens_before, list, normal_text, normalise, page, read_tables, read_trace, replay, Counts, Refusal,
-    PAGE_ROOM,
+    happens_before, list, normal_text, normalise, page, read_tables, read_trace, replay, try_orders, Counts,
+    Refusal, PAGE_ROOM,
 };
 use std::collections::{BTreeMap, BTreeSet};
 
@@ -112,8 +115,12 @@ fn every_refusal_is_reached() {
         note(list(&trace, &mut list_room).map(drop));
         note(page(&trace, &mut room(600)).map(drop));
         note(replay(&trace, &tables, &order, &mut tables_room, &mut answers_room).map(drop));
+        let mut room = room(6);
+        let even = recorded_order(length).repeat(random.below(5));
+        note(try_orders(&trace, &tables, &even, &mut room).map(drop));
+        note(try_orders(&trace, &tables, &any_uneven(&mut random, &even), &mut room).map(drop));
     }
-    for number in [0, 1, 2, 3, 4, 5, 6, 7, 8, 11, 12, 13, 14, 15, 16, 21, 22, 31, 32, 33, 51] {
+    for number in [0, 1, 2, 3, 4, 5, 6, 7, 8, 11, 12, 13, 14, 15, 16, 21, 22, 31, 32, 33, 51, 52, 53] {
         let times = reached.get(&number).copied().unwrap_or(0);
         assert!(times >= 50, "refusal {number} reached {times} times: {reached:?}");
     }
@@ -185,6 +192,65 @@ fn random_allowed_orders() {
         assert_eq!(replayed(&trace, &tables, &order), recorded, "{order:?}");
     }
     assert!(moved > 300, "{moved} orders differ from the recorded one");
+}
+
+/// Each byte of many orders is that which a replay of the order leads to, and all three occur often.
+#[test]
+fn many_orders_as_single_ones() {
+    let mut random = Random::from_seed(8);
+    let mut met = [0; 3];
+    for _ in 0..400 {
+        let world = World::any(&mut random);
+        let length = any_length(&mut random);
+        let events = any_trace(&mut random, world, length);
+        let before = happens_before(&events);
+        let (_, listed) = racing_pairs(&events, &before);
+        let trace = trace_text(&events);
+        let tables = tables_text(&any_tables(&mut random, world, length));
+        let orders = any_orders(&mut random, &before, &listed, 20);
+        assert_eq!(orders.len(), 20 * length);
+        let mut bytes = vec![9; 20];
+        let count = if length == 0 { 0 } else { 20 };
+        assert_eq!(try_orders(&trace, &tables, &orders, &mut bytes), Ok(count));
+        let recorded = replayed(&trace, &tables, &recorded_order(length));
+        for (order, &byte) in orders.chunks(length.max(1)).zip(&bytes) {
+            let single = match replayed(&trace, &tables, order) {
+                Err(number) => {
+                    assert!(matches!(number, 21 | 22), "{number}");
+                    2
+                }
+                result => u8::from(result != recorded),
+            };
+            assert_eq!(byte, single, "{order:?}");
+            met[usize::from(byte)] += 1;
+        }
+        assert!(bytes[count..].iter().all(|&byte| byte == 9));
+    }
+    assert!(met.iter().all(|&times| times > 500), "{met:?}");
+}
+
+/// The orders of the benchmark are accepted, many differ from the recorded one, and the traces have all words.
+#[test]
+fn mixed_events() {
+    let mut random = Random::from_seed(9);
+    for (switches, lines) in [(4, 64), (1, 256)] {
+        let events = traces::mixed(switches);
+        let (trace, tables) = (trace_text(&events), tables::mixed(switches, lines));
+        assert_eq!(read_tables(&tables).unwrap().iter().map(|table| table.len()).sum::<usize>(), lines);
+        let text = std::str::from_utf8(&trace).unwrap();
+        let words: BTreeSet<&str> = text.lines().map(|line| line.split(['=', ' ']).nth(3).unwrap()).collect();
+        assert_eq!(words.len(), 11, "{words:?}");
+        let mut bytes = [9; 100];
+        let orders = accepted_orders(&mut random, &happens_before(&events), 100);
+        assert_eq!(try_orders(&trace, &tables, &orders, &mut bytes), Ok(100));
+        assert!(bytes.iter().all(|&byte| byte < 2) && bytes.contains(&1), "{bytes:?}");
+    }
+    let mut bytes = [9; 10];
+    let orders = shuffled_orders(&mut random, 256, 10);
+    for tables in [Vec::new(), tables::reversed()] {
+        assert_eq!(try_orders(&traces::long_adds(), &tables, &orders, &mut bytes), Ok(10));
+        assert_eq!(bytes, [0; 10]);
+    }
 }
 
 /// With `pkt` for each `pout` fewer events are ordered and more pairs listed; what the recorded order does stays.

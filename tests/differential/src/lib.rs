@@ -4,6 +4,7 @@
 //! two answers, refusals, refused lines and every byte of the buffers and around them, and gives the answer
 //! back. Where they differ it panics and prints the input.
 
+use gellunka::Trial;
 use std::fmt::Debug;
 use std::ops::Range;
 use std::path::{Path, PathBuf};
@@ -141,6 +142,29 @@ pub fn replay(trace: &[u8], tables: &[u8], order: &[u8], rooms: [usize; 2]) -> A
         answers: their_answers.into_bytes()[..answers].to_vec(),
     })
 }
+
+/// The call of both on many orders, with a buffer for so many results: the byte of each order.
+pub fn try_orders(trace: &[u8], tables: &[u8], orders: &[u8], room: usize) -> Answer<Vec<u8>> {
+    let mut theirs = Buffer::new(room);
+    theirs.all.iter_mut().for_each(|byte| *byte %= 3);
+    let mut ours: Vec<Trial> = theirs.all.iter().map(|&byte| TRIALS[usize::from(byte)]).collect();
+    let proved = gellunka::try_orders(trace, tables, orders, &mut ours[theirs.lent.clone()])
+        .map_err(|r| from_library(&r, trace, tables));
+    let expected = reference::try_orders(trace, tables, orders, theirs.bytes())
+        .map_err(|r| from_reference(&r, trace, tables));
+    let show = || {
+        let inputs = [("trace", trace), ("tables", tables), ("orders", orders)];
+        format!("many orders, buffer for {room}\n{}", inputs.map(|(name, bytes)| text(name, bytes)).concat())
+    };
+    same(&proved, &expected, show);
+    let ours = Buffer { all: ours.iter().map(|&trial| trial as u8).collect(), lent: theirs.lent.clone() };
+    same_buffers(&ours, &theirs, show);
+    let count = expected?;
+    Ok(theirs.into_bytes()[..count].to_vec())
+}
+
+/// What is told of an order, by its byte.
+const TRIALS: [Trial; 3] = [Trial::Agrees, Trial::Differs, Trial::Refused];
 
 /// A trace of events on one switch that nothing orders, each a word and its items.
 pub fn trace(events: &[(&str, String)]) -> Vec<u8> {

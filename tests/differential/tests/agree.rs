@@ -1,13 +1,13 @@
 //! Many thousands of texts, valid and damaged, short and at the limits, every refusal, buffer lengths around the
-//! needed one, orders allowed, refused and damaged: library and reference agree on each. The seeds are fixed.
+//! needed one, orders allowed, refused and damaged, one by one and many in one call: library and reference agree on each. The seeds are fixed.
 
 use cases::damage::damaged;
-use cases::orders::{all_orders, any_allowed, any_damaged, is_allowed};
+use cases::orders::{all_orders, any_allowed, any_damaged, any_orders, any_uneven, is_allowed};
 use cases::print::{tables_text, trace_text};
 use cases::tables::any_tables;
 use cases::traces::{all_received, any_length, any_trace};
 use cases::{lengths_around, Random, World};
-use differential::{list, normalise, page, replay, Answer};
+use differential::{list, normalise, page, replay, try_orders, Answer};
 use reference::races::racing_pairs;
 use reference::replay::recorded_order;
 use reference::{happens_before, Counts};
@@ -246,6 +246,63 @@ fn replays_of_damaged_texts() {
         met.note(&replay(&trace, &tables, &order, rooms));
     }
     let all = [0, 1, 2, 3, 4, 5, 6, 7, 8, 11, 12, 13, 14, 15, 16, 21, 22, 32, 33];
+    met.assert_all(&all, 10);
+}
+
+#[test]
+fn many_orders_of_valid_traces() {
+    let mut random = Random::from_seed(111);
+    let mut met = Met::default();
+    let mut bytes = [0; 3];
+    for _ in 0..300 {
+        let world = World::any(&mut random);
+        let (length, lines) = (any_length(&mut random), any_length(&mut random));
+        let events = any_trace(&mut random, world, length);
+        let before = happens_before(&events);
+        let (_, listed) = racing_pairs(&events, &before);
+        let trace = trace_text(&events);
+        let tables = tables_text(&any_tables(&mut random, world, lines));
+        let count = random.below(30);
+        let orders = any_orders(&mut random, &before, &listed, count);
+        let needed = if length == 0 { 0 } else { count };
+        for room in lengths_around(needed) {
+            let answer = try_orders(&trace, &tables, &orders, room);
+            met.note(&answer);
+            assert_eq!(answer.is_ok(), room >= needed);
+        }
+        let tried = try_orders(&trace, &tables, &orders, needed).expect("all valid");
+        tried.iter().for_each(|&byte| bytes[usize::from(byte)] += 1);
+        met.note(&try_orders(&trace, &tables, &any_uneven(&mut random, &orders), count + 1));
+    }
+    met.assert_all(&[0, 52, 53], 100);
+    assert!(bytes.iter().all(|&times| times > 200), "{bytes:?}");
+}
+
+#[test]
+fn many_orders_of_damaged_texts() {
+    let mut random = Random::from_seed(112);
+    let mut met = Met::default();
+    for _ in 0..8_000 {
+        let world = World::any(&mut random);
+        let length = random.below(8);
+        let events = any_trace(&mut random, world, length);
+        let (mut trace, before) = (trace_text(&events), happens_before(&events));
+        let mut tables = tables_text(&any_tables(&mut random, world, length));
+        let count = random.below(6);
+        let mut orders = any_orders(&mut random, &before, &[], count);
+        if random.one_in(3) {
+            trace = damaged(&mut random, &trace);
+        }
+        if random.one_in(2) {
+            tables = damaged(&mut random, &tables);
+        }
+        if random.one_in(3) {
+            orders = any_uneven(&mut random, &orders);
+        }
+        let room = if random.one_in(2) { 64 } else { random.below(6) };
+        met.note(&try_orders(&trace, &tables, &orders, room));
+    }
+    let all = [0, 1, 2, 3, 4, 5, 6, 7, 8, 11, 12, 13, 14, 15, 16, 52, 53];
     met.assert_all(&all, 10);
 }
 

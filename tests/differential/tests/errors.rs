@@ -3,10 +3,11 @@
 
 use cases::{tables, traces};
 use differential::{program, Folder};
-use reference::output::{normalised, racelist, racepage, replayed};
+use reference::output::{normalised, racelist, racepage, replayed, tried};
+use reference::replay::recorded_order;
 use std::fs::File;
 use std::io::Write;
-use std::path::Path;
+use std::path::{Path, PathBuf};
 use std::process::{Command, Output, Stdio};
 use std::time::Duration;
 
@@ -17,13 +18,25 @@ const TABLES: &[u8] =
 /// Nothing printed; on standard error a line that begins so.
 fn says(output: &Output, begins: &str) {
     let said = String::from_utf8_lossy(&output.stderr);
-    assert!(output.stdout.is_empty(), "printed {}", output.stdout.escape_ascii());
+    let printed = &output.stdout[..output.stdout.len().min(1_000)];
+    assert!(printed.is_empty(), "printed {}", printed.escape_ascii());
     assert!(said.starts_with(begins) && said.ends_with('\n'), "said {said:?} and not {begins:?}");
     assert_eq!(said.lines().count(), 1, "{said:?}");
 }
 
 /// The programs that read standard input.
 const READING: [&str; 3] = ["racelist", "racepage", "normalise"];
+
+/// The programs that read files. The third may be left out of the first's.
+const OF_FILES: [&str; 2] = ["replay_trace", "replay_orders"];
+
+/// A program of these with a trace, tables and an order in files.
+fn of_files(name: &str, folder: &Folder, trace: &[u8]) -> Command {
+    let mut command = program(name);
+    command.arg(folder.file("trace", trace)).arg(folder.file("tables", TABLES));
+    command.arg(folder.file("order", b"\0"));
+    command
+}
 
 /// Each of them with an input that is accepted and with one that is refused.
 fn readings() -> impl Iterator<Item = (&'static str, &'static [u8])> {
@@ -59,6 +72,8 @@ fn a_full_disk_is_said() {
         let mut replay = program("replay_trace");
         replay.arg(folder.file("trace", trace)).arg(folder.file("tables", TABLES));
         says(&run(&mut replay, Stdio::null(), full()), "standard output: No space left");
+        let mut orders = of_files("replay_orders", &folder, trace);
+        says(&run(&mut orders, Stdio::null(), full()), "standard output: No space left");
     }
 }
 
@@ -73,6 +88,8 @@ fn a_closed_output_is_said() {
     let mut replay = program("replay_trace");
     replay.arg(folder.file("trace", TRACE)).arg(folder.file("tables", TABLES));
     says(&shell(">&-", &replay), "standard output: Bad file descriptor");
+    let orders = of_files("replay_orders", &folder, TRACE);
+    says(&shell(">&-", &orders), "standard output: Bad file descriptor");
 }
 
 #[test]
@@ -89,14 +106,32 @@ fn an_input_that_cannot_be_read_is_said() {
         for (bad, said) in [(&missing, "No such file or directory"), (&folder.path(""), "Is a directory")] {
             let mut arguments = [&trace, &tables, &order];
             arguments[absent] = bad;
-            let mut replay = program("replay_trace");
-            let output = replay.args(arguments).output().expect("the program ends");
-            says(&output, &format!("{}: {said}", bad.display()));
+            for name in OF_FILES {
+                let output = program(name).args(arguments).output().expect("the program ends");
+                says(&output, &format!("{}: {said}", bad.display()));
+            }
         }
     }
     let long = "x".repeat(5_000);
-    let output = program("replay_trace").args([&long, "tables"]).output().expect("the program ends");
-    says(&output, "argument: File name too long");
+    for name in OF_FILES {
+        let output = program(name).args([&long, "tables", "order"]).output().expect("the program ends");
+        says(&output, "argument: File name too long");
+    }
+}
+
+/// Of the orders 1,048,576 bytes are read. A longer file is told, also where the trace would be refused.
+#[test]
+fn too_many_orders_are_said() {
+    let folder = Folder::new("long");
+    let tables = folder.file("tables", TABLES);
+    for trace in [TRACE, b"", b"x\n"] {
+        let trace = folder.file("trace", trace);
+        for length in [1_048_577, 1_048_578, 3_000_000] {
+            let orders = folder.file("orders", &vec![0; length]);
+            let output = program("replay_orders").args([&trace, &tables, &orders]).output();
+            says(&output.expect("the program ends"), "");
+        }
+    }
 }
 
 #[test]
@@ -108,6 +143,10 @@ fn missing_and_surplus_arguments_are_said() {
     for count in [0, 1, 4, 5] {
         let output = program("replay_trace").args(vec!["x"; count]).output().expect("the program ends");
         says(&output, "usage: replay_trace TRACE TABLES [ORDER]");
+    }
+    for count in [0, 1, 2, 4, 5] {
+        let output = program("replay_orders").args(vec!["x"; count]).output().expect("the program ends");
+        says(&output, "usage: replay_orders TRACE TABLES ORDERS");
     }
 }
 
@@ -135,14 +174,23 @@ fn an_input_may_come_in_parts() {
         assert!(printed == expected, "{name} printed {}", printed.escape_ascii());
     }
     let folder = Folder::new("parts");
-    let mut running = program("replay_trace")
-        .arg("/dev/stdin")
-        .arg(folder.file("tables", &tables))
-        .stdin(Stdio::piped())
-        .stdout(Stdio::piped())
-        .spawn()
-        .expect("the program starts");
-    in_parts(running.stdin.take().expect("piped"), &trace);
-    let printed = running.wait_with_output().expect("the program ends").stdout;
-    assert!(printed == replayed(&trace, &tables, None), "printed {}", printed.escape_ascii());
+    let (trace_file, tables_file) = (folder.file("trace", &trace), folder.file("tables", &tables));
+    let standard_input = PathBuf::from("/dev/stdin");
+    let orders = [recorded_order(256), vec![0; 256]].concat().repeat(100);
+    for (name, arguments, input, expected) in [
+        ("replay_trace", vec![&standard_input, &tables_file], &trace, replayed(&trace, &tables, None)),
+        (
+            "replay_orders",
+            vec![&trace_file, &tables_file, &standard_input],
+            &orders,
+            tried(&trace, &tables, &orders),
+        ),
+    ] {
+        let mut command = program(name);
+        command.args(arguments).stdin(Stdio::piped()).stdout(Stdio::piped());
+        let mut running = command.spawn().expect("the program starts");
+        in_parts(running.stdin.take().expect("piped"), input);
+        let printed = running.wait_with_output().expect("the program ends").stdout;
+        assert!(printed == expected, "{name} printed {}", printed.escape_ascii());
+    }
 }

@@ -1,7 +1,7 @@
 //! Texts at the limits, and the worst cases.
 
 use cases::{lengths_around, tables, traces};
-use differential::{list, normalise, page, replay};
+use differential::{list, normalise, page, replay, try_orders};
 use reference::replay::recorded_order;
 use reference::table::Origin;
 use std::collections::BTreeSet;
@@ -23,6 +23,8 @@ fn bytes_and_lines() {
                 let _ = normalise(&text, 0);
                 let _ = replay(&text, &text, &[], [0, 0]);
                 let _ = replay(b"", &text, &[], [0, 0]);
+                let _ = try_orders(&text, &text, &[0], 0);
+                let _ = try_orders(b"", &text, &[0], 0);
             }
         }
     }
@@ -31,6 +33,8 @@ fn bytes_and_lines() {
     assert_eq!(refused(list(oth(257).as_bytes(), 0)), (3, 0));
     assert_eq!(refused(page(oth(256).as_bytes(), 243)), (51, 244));
     assert_eq!(refused(page(oth(257).as_bytes(), 243)), (3, 0));
+    assert_eq!(refused(try_orders(oth(256).as_bytes(), b"", &[0; 257], 0)), (52, 0));
+    assert_eq!(refused(try_orders(oth(257).as_bytes(), b"", &[0; 256], 0)), (3, 0));
     // The longest accepted lines, and a line that fills the text up to its last byte.
     let mut text = oth(255).into_bytes();
     text.resize(65_534, b'0');
@@ -53,9 +57,14 @@ fn single_bytes_and_pairs_of_bytes() {
             let _ = replay(text, b"", text, [8, 8]);
             let _ = replay(b"", text, b"", [8, 8]);
             let _ = replay(b"", b"", text, [8, 8]);
+            let _ = try_orders(text, b"", text, 8);
+            let _ = try_orders(b"", text, text, 8);
+            let _ = try_orders(b"", b"", text, 8);
+            let _ = try_orders(b"ev=0 do=oth in=- out=-\n", b"", text, 8);
         }
     }
     assert!(list(b"", 0).is_ok() && normalise(b"", 0).is_ok() && replay(b"", b"", b"", [0, 0]).is_ok());
+    assert_eq!(try_orders(b"", b"", b"", 0), Ok(Vec::new()));
 }
 
 const MATCHING: &str = "port=* vlan=4095 src=0a000000/8 dst=0a010000/16 proto=6 sport=* dport=80";
@@ -159,6 +168,7 @@ fn worst_cases() {
             let mut backward = recorded_order(256);
             backward.reverse();
             let _ = replay(trace, tables, &backward, [58_880, 7_168]);
+            let _ = try_orders(trace, tables, &[recorded_order(256), backward].concat(), 2);
         }
     }
     let normal = normalise(&tables::reversed(), 65_535).expect("valid tables");

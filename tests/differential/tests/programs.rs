@@ -1,13 +1,14 @@
 //! What the project's programs print, against the reference.
 
 use cases::damage::damaged;
-use cases::orders::any_damaged;
+use cases::orders::{any_damaged, any_orders, any_uneven};
 use cases::print::{tables_text, trace_text};
 use cases::tables::any_tables;
 use cases::traces::{any_length, any_trace};
 use cases::{tables, traces, Random, World};
 use differential::{program, Folder};
-use reference::output::{normalised, racelist, racepage, replayed};
+use reference::happens_before;
+use reference::output::{normalised, racelist, racepage, replayed, tried};
 use reference::replay::recorded_order;
 use reference::table::Origin;
 use std::io::Write;
@@ -106,5 +107,52 @@ fn replays() {
         replay(&trace, &damaged(&mut random, &tables), None);
         let order = any_damaged(&mut random, &recorded_order(length));
         replay(&damaged(&mut random, &trace), &damaged(&mut random, &tables), Some(&order));
+    }
+}
+
+/// As many as are read, so that the orders' numbers have all lengths that they can have.
+#[test]
+fn a_megabyte_of_orders() {
+    let folder = Folder::new("megabyte");
+    let (trace, orders) = (b"ev=0 do=oth in=- out=-\n", [0, 0, 0, 1].repeat(262_144));
+    let files = [("trace", &trace[..]), ("tables", b""), ("orders", &orders)];
+    let arguments = files.map(|(name, bytes)| folder.file(name, bytes));
+    let printed = program("replay_orders").args(arguments).output().expect("the program ends").stdout;
+    let expected = tried(trace, b"", &orders);
+    assert!(expected.ends_with(b"order=1048575 result=2\n"));
+    let at = printed.iter().zip(&expected).position(|(a, b)| a != b);
+    assert!(printed == expected, "{} of {} bytes, first other {at:?}", printed.len(), expected.len());
+}
+
+#[test]
+fn orders() {
+    let folder = Folder::new("orders");
+    let try_all = |trace: &[u8], tables: &[u8], orders: &[u8]| {
+        let mut command = program("replay_orders");
+        for (name, bytes) in [("trace", trace), ("tables", tables), ("orders", orders)] {
+            command.arg(folder.file(name, bytes));
+        }
+        let printed = command.output().expect("the program ends").stdout;
+        let input = [trace, b"\n--\n", tables, b"\n--\n", orders].concat();
+        check("replay_orders", &input, &printed, &tried(trace, tables, orders));
+    };
+    try_all(b"", b"", b"");
+    try_all(b"", b"", b"\0");
+    let other = b"ev=0 do=oth in=- out=-\n";
+    try_all(other, b"", b"");
+    try_all(&trace_text(&traces::mixed(4)), b"", &recorded_order(256).repeat(20));
+    let mut random = Random::from_seed(204);
+    for _ in 0..150 {
+        let world = World::any(&mut random);
+        let (length, lines) = (any_length(&mut random), any_length(&mut random));
+        let events = any_trace(&mut random, world, length);
+        let trace = trace_text(&events);
+        let tables = tables_text(&any_tables(&mut random, world, lines));
+        let count = random.pick(&[0, 1, 11, 101]);
+        let orders = any_orders(&mut random, &happens_before(&events), &[], count);
+        try_all(&trace, &tables, &orders);
+        try_all(&trace, &tables, &any_uneven(&mut random, &orders));
+        try_all(&damaged(&mut random, &trace), &tables, &orders);
+        try_all(&trace, &damaged(&mut random, &tables), &orders);
     }
 }

@@ -14,6 +14,7 @@
 //! | [`page`](mod@page) | The page |
 //! | [`tables`] | Tables: table texts and their normal form |
 //! | [`replay`](mod@replay) | Replay, and what an order of events does |
+//! | [`orders`] | Many orders in one call |
 //! | [`refusal`] | Refusal table |
 //! | [`output`] | Program and worked lines |
 //!
@@ -22,12 +23,13 @@
 //! (`write`), what precedes an event is looked up. What the fast forms mean stays beside them, and tests hold one
 //! against the other.
 //!
-//! The four calls write into buffers that the caller lends, as the proved ones do:
-//! [`list`], [`page()`], [`normalise`] and [`replay()`].
+//! The five calls write into buffers that the caller lends, as the proved ones do:
+//! [`list`], [`page()`], [`normalise`], [`replay()`] and [`try_orders`].
 
 pub mod causality;
 pub mod commute;
 pub mod flow;
+pub mod orders;
 pub mod output;
 pub mod page;
 pub mod races;
@@ -43,6 +45,7 @@ mod write;
 
 pub use causality::{happens_before, EventSet};
 pub use commute::commutes;
+pub use orders::try_orders;
 pub use page::{page, PAGE_ROOM};
 pub use races::{list, Counts};
 pub use refusal::Refusal;

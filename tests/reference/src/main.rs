@@ -5,11 +5,15 @@
 //! reference page < TRACE
 //! reference normalise < TABLES
 //! reference replay TRACE TABLES [ORDER]
+//! reference orders TRACE TABLES ORDERS
 //! ```
 
-use reference::output::{normalised, racelist, racepage, replayed};
+use reference::output::{normalised, racelist, racepage, replayed, tried};
 use std::io::{self, Read, Write};
 use std::process::ExitCode;
+
+const USE: &str =
+    "use: reference list | page | normalise | replay TRACE TABLES [ORDER] | orders TRACE TABLES ORDERS";
 
 fn main() -> ExitCode {
     let arguments: Vec<String> = std::env::args().skip(1).collect();
@@ -20,7 +24,8 @@ fn main() -> ExitCode {
         ["normalise"] => standard_input().map(|tables| normalised(&tables)),
         ["replay", trace, tables] => replay_files(trace, tables, None),
         ["replay", trace, tables, order] => replay_files(trace, tables, Some(order)),
-        _ => Err("use: reference list | page | normalise | replay TRACE TABLES [ORDER]".to_owned()),
+        ["orders", trace, tables, orders] => try_files(trace, tables, orders),
+        _ => Err(USE.to_owned()),
     };
     let written = output.and_then(|bytes| {
         io::stdout().write_all(&bytes).map_err(|error| format!("standard output: {error}"))
@@ -38,6 +43,10 @@ fn replay_files(trace: &str, tables: &str, order: Option<&str>) -> Result<Vec<u8
     let (trace, tables) = (file(trace)?, file(tables)?);
     let order = order.map(file).transpose()?;
     Ok(replayed(&trace, &tables, order.as_deref()))
+}
+
+fn try_files(trace: &str, tables: &str, orders: &str) -> Result<Vec<u8>, String> {
+    Ok(tried(&file(trace)?, &file(tables)?, &file(orders)?))
 }
 
 fn standard_input() -> Result<Vec<u8>, String> {

@@ -1,5 +1,6 @@
 //! What the project's programs print, as document 01 says under "Program and worked lines".
 
+use crate::orders::try_orders;
 use crate::page::{page, PAGE_ROOM};
 use crate::races::races;
 use crate::refusal::Refusal;
@@ -7,6 +8,7 @@ use crate::replay::{outcome, put_answers};
 use crate::tables::{normal_text, normalise};
 use crate::write;
 use crate::Counts;
+use std::io::Write;
 
 /// `racelist` of a trace: a `race` line for each listed pair, then the counts line; or the refusal.
 pub fn racelist(trace: &[u8]) -> Vec<u8> {
@@ -92,6 +94,22 @@ pub fn replayed(trace: &[u8], tables: &[u8], order: Option<&[u8]>) -> Vec<u8> {
         Ok((tables, answers)) => {
             let mut text = normal_text(&tables);
             put_answers(&mut text, &answers);
+            text
+        }
+        Err(refusal) => refused(&refusal),
+    }
+}
+
+/// `replay_orders` of a trace, tables and orders: a line for each order, or the refusal.
+pub fn tried(trace: &[u8], tables: &[u8], orders: &[u8]) -> Vec<u8> {
+    // No order is shorter than a byte.
+    let mut results = vec![0; orders.len()];
+    match try_orders(trace, tables, orders, &mut results) {
+        Ok(count) => {
+            let mut text = Vec::with_capacity(count * "order=1048575 result=0\n".len());
+            for (order, result) in results[..count].iter().enumerate() {
+                writeln!(text, "order={order} result={result}").expect("a text takes all that is written");
+            }
             text
         }
         Err(refusal) => refused(&refusal),

@@ -86,10 +86,11 @@ fn has_each_once(order: &[u8], events: usize) -> bool {
 }
 
 /// More than 512 entries would be held.
-struct TooMany;
+#[derive(Debug)]
+pub(crate) struct TooMany;
 
 /// Takes the events from the front of the order, and keeps each answer under its event's number.
-fn run(events: &[Event], order: &[u8], tables: &mut Tables) -> Result<Answers, TooMany> {
+pub(crate) fn run(events: &[Event], order: &[u8], tables: &mut Tables) -> Result<Answers, TooMany> {
     let mut answers = vec![None; events.len()];
     for &number in order {
         let number = usize::from(number);

@@ -5,7 +5,8 @@ use reference::replay::{check_order, recorded_order};
 use reference::table::{Origin, TableOperation};
 use reference::trace::Operation;
 use reference::{
-    happens_before, list, normalise, page, read_tables, read_trace, replay, Counts, Lengths, PAGE_ROOM,
+    happens_before, list, normalise, page, read_tables, read_trace, replay, try_orders, Counts, Lengths,
+    PAGE_ROOM,
 };
 
 const WORKED: &str = "\
@@ -578,4 +579,105 @@ fn the_most_that_is_written() {
     let writes: Vec<(&str, String)> = (0..256).map(|i| ("add", line(14, 65_000 + i))).collect();
     let (end, answers) = replayed(&plain_trace(&writes), &tables, None).unwrap();
     assert_eq!((end.len(), end.lines().count(), answers.len()), (58_880, 512, 0));
+}
+
+/// The bytes of some orders, into a buffer that is longer by two; or number and place of the refusal.
+fn tried(trace: &str, tables: &str, orders: &[u8]) -> Result<Vec<u8>, (u8, usize)> {
+    let mut out = vec![9; orders.len() + 2];
+    match try_orders(trace.as_bytes(), tables.as_bytes(), orders, &mut out) {
+        Ok(count) => {
+            assert!(out[count..].iter().all(|&byte| byte == 9));
+            out.truncate(count);
+            Ok(out)
+        }
+        Err(r) => {
+            assert!(out.iter().all(|&byte| byte == 9) && r.has_line() != r.line.is_empty());
+            Err((r.number, r.place))
+        }
+    }
+}
+
+#[test]
+fn orders_of_the_worked_lines() {
+    let orders = [
+        [0, 1, 2, 3, 4],
+        // The packet before its rule.
+        [0, 1, 4, 3, 2],
+        // The two rules exchanged.
+        [0, 1, 3, 2, 4],
+        // A rule before what sent it.
+        [0, 2, 1, 3, 4],
+        // An event twice, another missing; one that there is not; one five times.
+        [0, 1, 2, 3, 3],
+        [0, 1, 2, 3, 5],
+        [0, 0, 0, 0, 0],
+        [0, 1, 2, 4, 3],
+        [0, 1, 2, 3, 4],
+    ];
+    let bytes = [0, 1, 0, 2, 2, 2, 2, 1, 0];
+    assert_eq!(tried(WORKED, "", orders.as_flattened()), Ok(bytes.to_vec()));
+    for (order, byte) in orders.iter().zip(bytes) {
+        assert_eq!(tried(WORKED, "", order), Ok(vec![byte]), "{order:?}");
+    }
+    // A rule that is there from the start: the packet of switch 2 meets it in either order.
+    let rule = "sw=2 prio=10 port=* vlan=* src=00000000/0 dst=0a000002/32 proto=* sport=* dport=* act=p3\n";
+    assert_eq!(tried(WORKED, rule, orders.as_flattened()), Ok(vec![0, 0, 0, 2, 2, 2, 2, 0, 0]));
+}
+
+/// The end tables alone, or the answers alone, may differ.
+#[test]
+fn orders_that_differ_in_one_way() {
+    let add = |action: &str| ("add", format!("sw=1 prio=1 {ANY} act={action}"));
+    let tables = plain_trace(&[add("p1"), add("p2")]);
+    assert_eq!(tried(&tables, "", &[1, 0, 0, 1]), Ok(vec![1, 0]));
+    assert_eq!(tried(&plain_trace(&[add("p1"), add("p1")]), "", &[1, 0, 0, 1]), Ok(vec![0, 0]));
+    let packet = ("pkt", format!("sw=1 {PACKET}"));
+    let delete = ("deln", format!("sw=1 {ANY}"));
+    let answers = plain_trace(&[add("p1"), packet, delete]);
+    assert_eq!(tried(&answers, "", &[1, 0, 2, 0, 2, 1, 0, 1, 2]), Ok(vec![1, 1, 0]));
+    // On another switch nothing is met.
+    let apart = answers.replacen("do=pkt in=- out=- sw=1", "do=pkt in=- out=- sw=0", 1);
+    assert_eq!(tried(&apart, "", &[1, 0, 2, 0, 2, 1, 2, 1, 0]), Ok(vec![0, 0, 1]));
+}
+
+#[test]
+fn no_orders_and_uneven_lengths() {
+    assert_eq!(tried("", "", &[]), Ok(vec![]));
+    assert_eq!(tried("", "", &[0]), Err((52, 0)));
+    assert_eq!(tried("", "", &[0; 256]), Err((52, 0)));
+    assert_eq!(tried(WORKED, "", &[]), Ok(vec![]));
+    for length in 0..=20 {
+        let orders: Vec<u8> = (0..5).cycle().take(length).collect();
+        let expected = if length % 5 == 0 { Ok(vec![0; length / 5]) } else { Err((52, 0)) };
+        assert_eq!(tried(WORKED, "", &orders), expected, "{length}");
+    }
+    // Any length is one of orders of one event.
+    assert_eq!(tried("ev=0 do=oth in=- out=-\n", "", &[0, 1, 0, 255]), Ok(vec![0, 2, 0, 2]));
+}
+
+#[test]
+fn refusals_of_many_orders_in_their_order() {
+    let rule = format!("sw=1 prio=1 {ANY} act=drop\n");
+    let twice = format!("{rule}{rule}");
+    let mut out = [9; 3];
+    let mut at = |trace: &str, tables: &str, orders: &[u8], room: usize| {
+        let answer = try_orders(trace.as_bytes(), tables.as_bytes(), orders, &mut out[..room]);
+        let answer = answer.map_err(|r| (r.number, r.place, String::from_utf8(r.line.to_vec()).unwrap()));
+        if answer.is_err() {
+            assert_eq!(out, [9; 3]);
+        }
+        answer
+    };
+    let (even, odd) = ([0; 15], [0; 16]);
+    assert_eq!(at("x\n", &twice, &odd, 0), Err((4, 0, "x".to_owned())));
+    assert_eq!(at(WORKED, "x", &odd, 0), Err((12, 0, String::new())));
+    assert_eq!(at(WORKED, &twice, &odd, 0), Err((16, 1, rule.trim_end().to_owned())));
+    assert_eq!(at(WORKED, &rule, &odd, 0), Err((52, 0, String::new())));
+    assert_eq!(at(WORKED, &rule, &even[1..], 0), Err((52, 0, String::new())));
+    for room in 0..3 {
+        assert_eq!(at(WORKED, &rule, &even, room), Err((53, 3, String::new())));
+    }
+    assert_eq!(at(WORKED, &rule, &[], 0), Ok(0));
+    assert_eq!(at(WORKED, &rule, &even, 3), Ok(3));
+    assert_eq!(out, [2; 3]);
 }

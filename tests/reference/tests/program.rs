@@ -40,23 +40,44 @@ fn normalise() {
     assert_eq!(printed(&["normalise"], b"x\n"), "refused=14 place=0\nx\n");
 }
 
-#[test]
-fn replay() {
-    let folder = std::env::temp_dir().join(format!("reference-{}", std::process::id()));
+/// What the program prints with files of some bytes behind its first argument.
+fn printed_of(word: &str, files: &[&[u8]]) -> String {
+    let folder = std::env::temp_dir().join(format!("reference-{word}-{}", std::process::id()));
     std::fs::create_dir_all(&folder).unwrap();
-    let write = |name: &str, bytes: &[u8]| {
-        let path = folder.join(name);
+    let write = |(number, bytes): (usize, &&[u8])| {
+        let path = folder.join(number.to_string());
         std::fs::write(&path, bytes).unwrap();
         path.into_os_string().into_string().unwrap()
     };
-    let packet = "sw=1 port=1 vlan=1 src=00000000 dst=00000000 proto=1 sport=1 dport=1";
-    let trace =
-        write("trace", format!("ev=0 do=oth in=- out=1\nev=1 do=pkt in=1 out=- {packet}\n").as_bytes());
-    let tables = write("tables", b"");
-    let (good, early, short) = (write("good", &[0, 1]), write("early", &[1, 0]), write("short", &[0]));
-    assert_eq!(printed(&["replay", &trace, &tables], b""), "ev=1 hit=-\n");
-    assert_eq!(printed(&["replay", &trace, &tables, &good], b""), "ev=1 hit=-\n");
-    assert_eq!(printed(&["replay", &trace, &tables, &early], b""), "refused=22 place=0\n");
-    assert_eq!(printed(&["replay", &trace, &tables, &short], b""), "refused=21 place=0\n");
+    let paths: Vec<String> = files.iter().enumerate().map(write).collect();
+    let arguments: Vec<&str> = std::iter::once(word).chain(paths.iter().map(String::as_str)).collect();
+    let text = printed(&arguments, b"");
     std::fs::remove_dir_all(&folder).unwrap();
+    text
+}
+
+/// A packet that waits for another event.
+const TRACE: &[u8] = b"\
+ev=0 do=oth in=- out=1
+ev=1 do=pkt in=1 out=- sw=1 port=1 vlan=1 src=00000000 dst=00000000 proto=1 sport=1 dport=1
+";
+
+#[test]
+fn replay() {
+    assert_eq!(printed_of("replay", &[TRACE, b""]), "ev=1 hit=-\n");
+    assert_eq!(printed_of("replay", &[TRACE, b"", &[0, 1]]), "ev=1 hit=-\n");
+    assert_eq!(printed_of("replay", &[TRACE, b"", &[1, 0]]), "refused=22 place=0\n");
+    assert_eq!(printed_of("replay", &[TRACE, b"", &[0]]), "refused=21 place=0\n");
+}
+
+#[test]
+fn orders() {
+    let tried = |tables: &[u8], orders: &[u8]| printed_of("orders", &[TRACE, tables, orders]);
+    assert_eq!(tried(b"", &[0, 1, 1, 0, 0, 0]), "order=0 result=0\norder=1 result=2\norder=2 result=2\n");
+    assert_eq!(tried(b"", b""), "");
+    assert_eq!(tried(b"", &[0]), "refused=52 place=0\n");
+    assert_eq!(tried(b"x\n", &[0]), "refused=14 place=0\nx\n");
+    let many = tried(b"", &[0, 1].repeat(70_000));
+    assert!(many.ends_with("order=69999 result=0\n"));
+    assert_eq!(many.lines().count(), 70_000);
 }

@@ -14,8 +14,11 @@ pub mod sources;
 pub mod text;
 pub mod tree;
 
+use cases::orders::{all_orders, is_allowed};
 use notation::{Case, Kind, Reader};
-use reference::output::{normalised, racelist, racepage, replayed};
+use reference::output::{normalised, racelist, racepage, replayed, tried};
+use reference::replay::recorded_order;
+use reference::{happens_before, read_trace};
 use std::path::Path;
 use tree::{Content, File};
 
@@ -26,6 +29,7 @@ pub struct Vectors {
     tables_test: Vec<Case>,
     replay_test: Vec<Case>,
     replay_trace: Vec<Case>,
+    replay_orders: Vec<Case>,
     flow_test: flow::Vectors,
     commuting_test: commuting::Vectors,
 }
@@ -55,6 +59,7 @@ impl Vectors {
             tables_test: cases("tables_test", 2)?,
             replay_test: cases("replay_test", 0)?,
             replay_trace: cases("replay_trace", 0)?,
+            replay_orders: cases("replay_orders", 0)?,
             flow_test: flow::Vectors::read(&flow_path, &flow_text)?,
             commuting_test: commuting::Vectors::read(reader(0)?, &pairs_path, &pairs_text)?,
         })
@@ -69,14 +74,19 @@ impl Vectors {
             ("tables_test", &self.tables_test, printed::tables_test(&self.tables_test)),
             ("replay_test", &self.replay_test, printed::replay_test(&self.replay_test)),
             ("replay_trace", &self.replay_trace, self.replay_trace_output()),
+            ("replay_orders", &self.replay_orders, self.replay_orders_output()),
             ("flow_test", &Vec::new(), self.flow_test.printed().into_bytes()),
             ("commuting_test", &Vec::new(), self.commuting_test.printed().into_bytes()),
         ] {
             files.extend(cases.iter().map(|case| data_file(crate_name, case)));
             files.push(stored(crate_name, "stdout", output));
         }
-        let arguments = self.replay_trace.iter().map(|case| case.name.clone() + "\n");
-        files.push(stored("replay_trace", "args", arguments.collect::<String>().into_bytes()));
+        for (crate_name, cases) in
+            [("replay_trace", &self.replay_trace), ("replay_orders", &self.replay_orders)]
+        {
+            let arguments = cases.iter().map(|case| case.name.clone() + "\n");
+            files.push(stored(crate_name, "args", arguments.collect::<String>().into_bytes()));
+        }
         let trace = text_of(&self.list_test, "packet_early");
         for (crate_name, output) in [("racelist", racelist(&trace)), ("racepage", racepage(&trace))] {
             files.push(stored(crate_name, "stdout", output));
@@ -91,12 +101,20 @@ impl Vectors {
         }
         let rehearsals = self.list_test.iter().filter(|case| case.kind == Kind::Named);
         files.extend(rehearsals.map(example_page));
+        for name in ["packet_early", "packet_early_repaired"] {
+            files.extend(example_orders(name, &text_of(&self.list_test, name)));
+        }
         files
     }
 
     fn replay_trace_output(&self) -> Vec<u8> {
         let text = |name| text_of(&self.replay_trace, name);
         replayed(&text("trace"), &text("tables"), Some(&text("order")))
+    }
+
+    fn replay_orders_output(&self) -> Vec<u8> {
+        let text = |name| text_of(&self.replay_orders, name);
+        tried(&text("trace"), &text("tables"), &text("orders"))
     }
 
     /// What the programs' sources and `examples/README.md` say otherwise.
@@ -156,4 +174,20 @@ fn example_page(case: &Case) -> File {
     let title = format!("the page of {}", case.name);
     let path = format!("examples/{}.page", case.name);
     File { path, title, content: Content::Bytes(racepage(&case.bytes())) }
+}
+
+/// All orders of an example's trace that keep happens-before, rising, and then the recorded one reversed; and what they
+/// do to empty tables.
+fn example_orders(name: &str, trace: &[u8]) -> [File; 2] {
+    let before = happens_before(&read_trace(trace).expect("a rehearsal is accepted"));
+    let mut orders = all_orders(before.len());
+    orders.retain(|order| is_allowed(order, &before, &[]));
+    orders.sort_unstable();
+    orders.push(recorded_order(before.len()).into_iter().rev().collect());
+    let orders = orders.concat();
+    let results = tried(trace, b"", &orders);
+    [("orders", "orders", orders), ("results", "what the orders do", results)].map(|(end, what, bytes)| {
+        let (path, title) = (format!("examples/{name}.{end}"), format!("{what} of {name}"));
+        File { path, title, content: Content::Bytes(bytes) }
+    })
 }

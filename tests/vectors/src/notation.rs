@@ -22,7 +22,7 @@
 //! Each line is ended by LF. Further statements:
 //!
 //! - `fill N TEXT`: N times TEXT, without LF;
-//! - `no-lf`: the LF of the last line goes;
+//! - `no-lf`: the LF of the last line goes; `no-lfs`: those of all lines so far do;
 //! - `line N: LINE` puts another line in place of line N; `line N | CHANGE` damages it;
 //! - `pick 2 0 1`: the lines of the text so far, in this order; `reversed`: the last first.
 
@@ -154,6 +154,7 @@ impl Reader {
                 self.text()?.push_bytes(bytes_of(text)?.repeat(times));
             }
             "no-lf" => self.text()?.drop_lf()?,
+            "no-lfs" => self.text()?.drop_lfs(),
             "line" => self.change_line(rest)?,
             "pick" => self.text()?.pick(&numbers(rest)?)?,
             "reversed" => self.text()?.reverse(),
@@ -290,6 +291,7 @@ mod tests {
         assert_eq!(file("raw a\nfill 3 xy\nraw b\nno-lf"), r"a\nxyxyxyb");
         assert_eq!(file("order 0 10 255\norder"), r"\x00\n\xff\n\n");
         assert_eq!(file("orders 2"), r"\x00\x01\n\x01\x00\n");
+        assert_eq!(file("orders 2\nno-lfs\norder 7"), r"\x00\x01\x01\x00\x07\n");
     }
 
     #[test]

@@ -49,6 +49,11 @@ impl Text {
         Ok(())
     }
 
+    /// Takes the LFs of all lines away.
+    pub fn drop_lfs(&mut self) {
+        self.lines.iter_mut().for_each(|line| line.has_lf = false);
+    }
+
     /// A line, to be changed.
     pub fn line(&mut self, place: usize) -> Result<&mut Vec<u8>, String> {
         let line = self.lines.get_mut(place).ok_or_else(|| format!("there is no line {place}"))?;

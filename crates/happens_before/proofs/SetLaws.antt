@@ -1,38 +1,31 @@
--- Sets in rows of words: one element more, the union, the empty set. Assumes nothing.
-use Prim.Native.Nat.{ℕ, zero, suc, _+_, _-_, _*_, _/_, _%_, _^_, _<_, max}
-use native.Mathlib.Nat.{eq-or-lt-of-le, zero-div, div-eq-of-lt, pow-suc}
+-- Sets in rows of words: one element more, the union, the empty set, whether a set lacks a member of another. Assumes nothing.
+use Prim.Native.Nat.{ℕ, zero, suc, _+_, _-_, _*_, _/_, _%_, _^_, _<_}
+use native.Mathlib.Nat.{eq-or-lt-of-le, lt-of-lt-of-le, zero-div, div-one, div-eq-of-lt, pow-suc}
 use native.Mathlib.Decide.{ℕ-discrete, decLt}
 use native.Mathlib.Omega.{arith}
 use mathlib.Core.Path.{_≡_, refl, sym, ap, subst, _∙_}
 use mathlib.Core.Logic.{⊎-elim}
 use mathlib.Core.List.{List, [], _∷_}
-use mathlib.Core.Bool.{Bool, false, _||_, or-comm}
+use mathlib.Core.Bool.{Bool, true, false, not, _&&_, _||_, or-comm, false≢true, true≢false}
 use lib.Dec.{eqb}
 use lib.ListN.{length, getD, set, List·getD-eq-default}
 use lib.Seq.{getD-set-same, getD-set-other}
-use lib.Pow.{pow-add, pow-lt, shl-shr, shl-exact}
-use lib.Bits.{bitOr, or-shr, or-step}
-use borrow.Author.Tests.{eq-eqb, ne-eqb}
-use Rattle.happens_before.specs.Inner.{wordBit, member, noMembers}
+use lib.Pow.{pow-add, pow-lt, pow-mono, shl-shr, shr-shr, shl-exact}
+use lib.Bits.{bitAnd, bitOr}
+use borrow.Author.Tests.{eqb-true, eqb-false, eq-eqb, ne-eqb, not-true}
+use Rattle.basics.proofs.Booleans.{split, and-left, and-right, and-intro, and-absorb-right}
+use Rattle.basics.proofs.Searches.{any-none, any-found, any-at}
+use Rattle.flow.proofs.Digits.{digit, digit-and, digit-or, known-by-digits}
+use Rattle.happens_before.specs.Inner.{wordBit, lacksBit, member, noMembers}
 
-parity : (p q : ℕ) → p < 2 → q < 2 → eqb (max p q) 1 ≡ (eqb p 1 || eqb q 1)
-parity zero zero hp hq = refl
-parity zero (suc zero) hp hq = refl
-parity zero (suc (suc q)) hp hq = absurd (omega arith)
-parity (suc zero) zero hp hq = refl
-parity (suc zero) (suc zero) hp hq = refl
-parity (suc zero) (suc (suc q)) hp hq = absurd (omega arith)
-parity (suc (suc p)) q hp hq = absurd (omega arith)
-
-or-odd : (a b : ℕ) → bitOr a b % 2 ≡ max (a % 2) (b % 2)
-or-odd a b = omega (arith, or-step a b)
+-- the bits of a word are its digits
+bit-digit : (k x : ℕ) → wordBit x k ≡ digit k x
+unfolding wordBit digit
+bit-digit zero x = ap (λ (n : ℕ). eqb (n % 2) 1) (div-one x)
+bit-digit (suc k) x = ap (λ (n : ℕ). eqb (x / 2 ^ n % 2) 1) (omega arith) ∙ ap (λ (n : ℕ). eqb (n % 2) 1) (sym (shr-shr x 1 k)) ∙ bit-digit k (x / 2)
 
 bit-or : (x y k : ℕ) → wordBit (bitOr x y) k ≡ (wordBit x k || wordBit y k)
-unfolding wordBit
-bit-or x y k =
-    ap (λ (n : ℕ). eqb (n % 2) 1) (or-shr x y k)
-    ∙ ap (λ (n : ℕ). eqb n 1) (or-odd (x / 2 ^ k) (y / 2 ^ k))
-    ∙ parity (x / 2 ^ k % 2) (y / 2 ^ k % 2) (omega arith) (omega arith)
+bit-or x y k = rw (bit-digit k x, bit-digit k y) (bit-digit k (bitOr x y) ∙ digit-or k x y)
 
 -- 2 ^ (d + i) shifted down by i
 down : (d i : ℕ) → 2 ^ (d + i) / 2 ^ i ≡ 2 ^ d
@@ -120,3 +113,57 @@ member-none k = ap (λ (x : ℕ). eqb (x / 2 ^ (k % 64) % 2) 1) (zero-word (k / 
 pub member-nil : (k : ℕ) → member [] k ≡ false
 unfolding member wordBit
 member-nil k = ap (λ (x : ℕ). eqb (x % 2) 1) (zero-div (2 ^ (k % 64)))
+
+-- ---- whether a set lacks a member of another, word by word
+bit-and : (x y k : ℕ) → wordBit (bitAnd x y) k ≡ (wordBit x k && wordBit y k)
+bit-and x y k = rw (bit-digit k x, bit-digit k y) (bit-digit k (bitAnd x y) ∙ digit-and k x y)
+
+no-bit : (x k : ℕ) → x < 2 ^ k → wordBit x k ≡ false
+unfolding wordBit
+no-bit x k h = ap (λ (n : ℕ). eqb (n % 2) 1) (div-eq-of-lt h)
+
+missing-none : (p q : Bool) → (p && q) ≡ q → (q && not p) ≡ false
+missing-none true true e = refl
+missing-none true false e = refl
+missing-none false true e = absurd (false≢true e)
+missing-none false false e = refl
+
+module _ (x y : ℕ) where
+  lacks-no-bit : lacksBit x y ≡ false → (k : ℕ) → k < 64 → wordBit y k ≡ true → wordBit x k ≡ true
+  unfolding lacksBit
+  lacks-no-bit e k l h = split (wordBit x k)
+      (λ u. u)
+      (λ u. absurd (true≢false (sym (any-at (λ k. wordBit y k && not (wordBit x k)) 64 k l (and-intro h (ap not u))) ∙ e)))
+
+  covered : y < 2 ^ 64 → lacksBit x y ≡ false → bitAnd x y ≡ y
+  covered h e = known-by-digits (bitAnd x y) y (λ i. digit-and i x y ∙ sym (and-absorb-right (digit i x) (digit i y) (at i)))
+    where
+      at : (i : ℕ) → digit i y ≡ true → digit i x ≡ true
+      at i d = elim (decLt i 64) [
+        | yes l ↦ sym (bit-digit i x) ∙ lacks-no-bit e i l (bit-digit i y ∙ d)
+        | no m ↦ absurd (false≢true (sym (no-bit y i (lt-of-lt-of-le h (pow-mono {i = 64} {j = i} (omega arith)))) ∙ bit-digit i y ∙ d))
+      ]
+
+  lacks-none-of : bitAnd x y ≡ y → lacksBit x y ≡ false
+  unfolding lacksBit
+  lacks-none-of e = sym (any-none (λ k. wordBit y k && not (wordBit x k)) 64
+      (λ k l. missing-none (wordBit x k) (wordBit y k) (sym (bit-and x y k) ∙ ap (λ (n : ℕ). wordBit n k) e)))
+
+  -- what the code tests
+  pub lacks-test : y < 2 ^ 64 → not (eqb (bitAnd x y) y) ≡ lacksBit x y
+  lacks-test h = split (eqb (bitAnd x y) y)
+      (λ e. rw e (sym (lacks-none-of (eqb-true (bitAnd x y) y e))))
+      (λ e. rw e (split (lacksBit x y) sym (λ f. absurd (eqb-false (bitAnd x y) y e (covered h f)))))
+
+module _ (a b : List ℕ) (w : ℕ) where
+  pub lacks-none : lacksBit (getD a w 0) (getD b w 0) ≡ false → (k : ℕ) → k / 64 ≡ w → member b k ≡ true → member a k ≡ true
+  unfolding member
+  lacks-none e k q h = rw q (lacks-no-bit (getD a w 0) (getD b w 0) e (k % 64) (omega arith) (rw q at h))
+
+  pub lacks-found : lacksBit (getD a w 0) (getD b w 0) ≡ true → (k : ℕ) × (k / 64 ≡ w) × (member b k ≡ true) × (member a k ≡ false)
+  unfolding lacksBit member
+  lacks-found e =
+      let (k, l, m) = any-found (λ k. wordBit (getD b w 0) k && not (wordBit (getD a w 0) k)) 64 e in
+      let q : (64 * w + k) / 64 ≡ w = omega arith in
+      let r : (64 * w + k) % 64 ≡ k = omega arith in
+      (64 * w + k, q, rw (q, r) (and-left (wordBit (getD b w 0) k) _ m), rw (q, r) (not-true _ (and-right (wordBit (getD b w 0) k) _ m)))

@@ -1,16 +1,21 @@
 -- Inner: happens-before as it is held, 256 rows of four 64-bit words, each row the set of the events before one.
 use mathlib.Core.Path.{_≡_}
-use mathlib.Core.Bool.{Bool, _||_, cond}
+use mathlib.Core.Bool.{Bool, not, _&&_, _||_, cond}
 use mathlib.Core.List.{List, [], _∷_}
 use Prim.Native.Nat.{ℕ, _/_, _%_, _^_}
 use lib.Dec.{eqb}
 use lib.ListN.{getD}
+use Rattle.basics.specs.Searches.{anyBelow}
 use Rattle.happens_before.specs.Types.{Side, Event}
 use Rattle.happens_before.specs.Causality.{before}
 
 -- bit k of the word x is 1
 unfoldable pub wordBit : ℕ → ℕ → Bool
 wordBit x k = eqb (x / 2 ^ k % 2) 1
+
+-- the word x lacks a bit of y
+unfoldable pub lacksBit : ℕ → ℕ → Bool
+lacksBit x y = anyBelow (λ k. wordBit y k && not (wordBit x k)) 64
 
 -- j is in the set: bit j % 64 of word j / 64
 unfoldable pub member : List ℕ → ℕ → Bool

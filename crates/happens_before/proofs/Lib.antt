@@ -3,3 +3,4 @@ pub mod Barriers
 pub mod RowLaws
 pub mod SideNotes
 pub mod SearchStart
+pub mod Lacking

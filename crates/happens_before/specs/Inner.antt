@@ -1,12 +1,17 @@
 -- Inner: happens-before as it is held, 256 rows of four 64-bit words, each row the set of the events before one.
 use mathlib.Core.Path.{_≡_}
-use mathlib.Core.Bool.{Bool, _||_, cond}
+use mathlib.Core.Bool.{Bool, not, _&&_, _||_, cond}
 use mathlib.Core.List.{List, [], _∷_}
 use Prim.Native.Nat.{ℕ}
 use lib.ListN.{getD}
-use Rattle.bit_sets.specs.Inner.{member}
+use Rattle.basics.specs.Searches.{anyBelow}
+use Rattle.bit_sets.specs.Inner.{wordBit, member}
 use Rattle.happens_before.specs.Types.{Side, Event}
 use Rattle.happens_before.specs.Causality.{before}
+
+-- the word x lacks a bit of y
+unfoldable pub lacksBit : ℕ → ℕ → Bool
+lacksBit x y = anyBelow (λ k. wordBit y k && not (wordBit x k)) 64
 
 -- the empty set
 abbrev pub noMembers : List ℕ

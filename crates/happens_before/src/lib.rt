@@ -4,3 +4,5 @@ mod sets;
 
 pub use closure::happens_before;
 pub use closure::is_before;
+pub use sets::lacks;
+pub use sets::with;

@@ -4,6 +4,7 @@ ghost use mathlib.Core.Bool.{_&&_, _||_};
 ghost use Prim.Native.Nat.{ℕ};
 ghost use lib.Dec.{eqb};
 ghost use Rattle.bit_sets.specs.Inner.{member};
+ghost use Rattle.happens_before.specs.Inner.{lacksBit};
 
 // j is in the set.
 pub fn contains(row: [u64; 4], j: u8) -> bool
@@ -34,4 +35,11 @@ pub fn join_if(set: [u64; 4], row: [u64; 4], j: u8, asked: bool) -> [u64; 4]
     ensures { λ r. ⌜ ((k : ℕ) → member r k ≡ (member set k || («asked» && (eqb k j || member row k)))) ⌝ }
 {
     if asked { union(set, with(row, j)) } else { set }
+}
+
+// The word lacks a bit of the other: of the same word of two sets, whether a member of the second is missing in the first.
+pub fn lacks(word: u64, other: u64) -> bool
+    ensures { λ r. ⌜ r ≡ lacksBit word other ⌝ }
+{
+    word & other != other
 }

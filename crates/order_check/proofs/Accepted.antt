@@ -2,7 +2,7 @@
 -- is the lowest (`early-iff`), an order is accepted exactly if none of its events is missing and it keeps happens-before
 -- (`order-accepted-iff`), and the recorded order is accepted (`recorded-accepted`). Assumes nothing.
 use mathlib.Core.Path.{_≡_, refl, sym, ap, _∙_}
-use mathlib.Core.Logic.{_↔_, inl, inr}
+use mathlib.Core.Logic.{_↔_, inr}
 use mathlib.Core.Bool.{Bool, true, false, not, _&&_, _||_, cond, false≢true, true≢false, or-true}
 use mathlib.Core.Option.{Option, none, some}
 use mathlib.Core.List.{List, [], _∷_}
@@ -22,7 +22,7 @@ use Rattle.refusals.specs.Checks.{_▹_, refuseIf, refuseAt}
 use Rattle.order_check.specs.Types.{Event, Refusal}
 use Rattle.order_check.specs.Schedule.{complete, anyBefore, earlyFrom, firstEarly, checkOrder, EarlyAt, LowestEarly, KeepsOrder}
 use Rattle.order_check.proofs.Flags.{complete-iff}
-use Rattle.order_check.proofs.SearchLaws.{found-in, finds-in, early-like}
+use Rattle.order_check.proofs.SearchLaws.{found-in, finds-in}
 
 some-none : {A : Type 0} {x : A} → some x ≡ none → ⊥
 some-none p = let z : _≡_ {A = ℕ} 0 1 = cc in omega arith
@@ -171,16 +171,6 @@ order-accepted-iff es o = (
       (order, early-none-iff es o order .0 (p .1)),
   λ p. rw (complete-iff (length es) o .1 (p .0), early-none-iff es o (p .0) .1 (p .1)) refl,
 )
-
--- ---- the two checks in turn
-module _ (es : List Event) (o : List ℕ) (n : ℕ) {b : Bool} (size : length es ≡ n) (asked : b ≡ complete n o) where
-  pub refuses-incomplete : b ≡ false → inl Refusal.OrderIncomplete ≡ checkOrder es o
-  unfolding checkOrder
-  refuses-incomplete e = rw (size, ← asked, e) refl
-
-  pub refuses-early : b ≡ true → (hb : ℕ → ℕ → Bool) → ((i j : ℕ) → hb i j ≡ before es i j) → (p : Option ℕ) → p ≡ earlyFrom hb 0 o → refuseAt p Refusal.EventTooEarly ≡ checkOrder es o
-  unfolding checkOrder
-  refuses-early e hb like p q = rw (size, ← asked, e) (ap (λ x. refuseAt x Refusal.EventTooEarly) (q ∙ early-like hb (before es) like 0 o))
 
 -- ---- the recorded order
 has-from : (i b n : ℕ) → b ≤ i → i < b + n → has i (from b n) ≡ true

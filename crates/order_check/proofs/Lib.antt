@@ -1,3 +1,4 @@
 pub mod Flags
 pub mod SearchLaws
+pub mod ByRows
 pub mod Accepted

@@ -30,11 +30,15 @@ earlyFrom hb k (j ∷ o) = cond (anyBefore hb j o) (some k) (earlyFrom hb (k + 1
 abbrev pub firstEarly : List Event → List ℕ → Option ℕ
 firstEarly es o = earlyFrom (before es) 0 o
 
--- 21 if an order's length is wrong or an event missing; then 22 at that position
+-- 21 if the length of an order of n events is wrong or an event missing; then 22 at the first position that is early, as hb says
+abbrev pub checkBy : (ℕ → ℕ → Bool) → ℕ → List ℕ → Checked (Unit {0})
+checkBy hb n o =
+    refuseIf (not (complete n o)) Refusal.OrderIncomplete ▹ λ _.
+    refuseAt (earlyFrom hb 0 o) Refusal.EventTooEarly
+
+-- the same of a trace's events, by what happens before
 unfoldable pub checkOrder : List Event → List ℕ → Checked (Unit {0})
-checkOrder es o =
-    refuseIf (not (complete (length es) o)) Refusal.OrderIncomplete ▹ λ _.
-    refuseAt (firstEarly es o) Refusal.EventTooEarly
+checkOrder es o = checkBy (before es) (length es) o
 
 -- a position that holds an event put before one that comes before it: a later position has that one
 pub record EarlyAt (hb : ℕ → ℕ → Bool) (o : List ℕ) (p : ℕ) : Type 0 where

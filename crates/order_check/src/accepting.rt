@@ -4,20 +4,18 @@ use crate::search::Early;
 use crate::search::first_early;
 use refusals::Outcome;
 use refusals::Refusal;
-use trace_events::Trace;
 ghost use mathlib.Core.Path.{_≡_};
-ghost use Prim.Native.Nat.{_≤_};
-ghost use Rattle.trace_events.specs.Events.{eventsOf};
-ghost use Rattle.happens_before.specs.Inner.{HappensBefore};
+ghost use mathlib.Core.Bool.{true};
+ghost use Prim.Native.Nat.{ℕ, _<_, _≤_};
+ghost use Rattle.happens_before.specs.Inner.{bit};
 ghost use Rattle.refusals.specs.Checks.{outcomeOf};
-ghost use Rattle.order_check.specs.Schedule.{checkOrder};
+ghost use Rattle.order_check.specs.Schedule.{checkBy};
 
-// Whether the order is accepted. The rows are those of happens-before of the trace.
-pub fn check_order(t: Trace, rows: &[[u64; 4]; 256], order: &[u8]) -> Outcome
-    requires { ⌜ (t .len ≤ 256) × HappensBefore (eventsOf t) (now rows) ⌝ }
-    ensures { λ r. ⌜ outcomeOf r tt ≡ checkOrder (eventsOf t) (now (order .entry)) ⌝ }
+// Whether the order of n events is accepted, by the rows of happens-before.
+pub fn check_order(n: usize, rows: &[[u64; 4]; 256], order: &[u8]) -> Outcome
+    requires { ⌜ (n ≤ 256) × ((i j : ℕ) → bit (now rows) i j ≡ true → i < n) ⌝ }
+    ensures { λ r. ⌜ outcomeOf r tt ≡ checkBy (bit (now (rows .entry))) n (now (order .entry)) ⌝ }
 {
-    let n = t.len;
     if !is_complete(order, n) {
         return Outcome::Refused(Refusal::OrderIncomplete);
     }

@@ -51,7 +51,7 @@ fn replay_order(
     ensures { λ r. ⌜ Leaves (orderedFrom (eventsOf t) (rowsOf start) (now (order .entry)) (length (now (out .entry))) (length (now (answered .entry)))) r (now (out .entry)) (now (out .exit)) (now (answered .entry)) (now (answered .exit)) ⌝ }
 {
     let earlier = happens_before::happens_before(t);
-    let outcome = check_order(t, &earlier, order);
+    let outcome = check_order(t.len, &earlier, order);
     match outcome {
         Outcome::Refused(r) => ReplayAnswer::Refused(r),
         Outcome::Accepted => run_order(t, start, order, out, answered),

@@ -3,4 +3,5 @@ pub mod SameTexts
 pub mod Buffers
 pub mod Demand3
 pub mod InRange
+pub mod EndInRange
 pub mod Rooms

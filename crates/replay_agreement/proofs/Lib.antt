@@ -5,3 +5,4 @@ pub mod Demand3
 pub mod InRange
 pub mod EndInRange
 pub mod Rooms
+pub mod TextsTell

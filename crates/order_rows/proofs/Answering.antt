@@ -46,6 +46,10 @@ answer-silent : (o : Operation) (rs : List Row) → isSilent (answerRows o rs) �
 unfolding answerRows
 answer-silent o rs = effect-silent (switchOf o) (effectOf o) rs
 
+-- in an order of the events no other number stands
+pub absent : {n : ℕ} {o : List ℕ} → IsOrderOf n o → (i : ℕ) → (i < n → ⊥) → has i o ≡ false
+absent {o = o} p i l = split (has i o) (λ e. absurd (l (in-range p i e))) (λ e. e)
+
 module _ (es : List Event) where
   kept-silent : (i : ℕ) (o : List ℕ) (rs : List Row) (a : Answer) → has i o ≡ true → isSilent (keptIn es i o rs a) ≡ not (hasAnswer (operationAt es i))
   unfolding keptIn
@@ -68,11 +72,8 @@ module _ (es : List Event) where
   answer-line-iff o p rs i =
       elim (decLt i (length es)) [
         | yes l ↦ kept-silent i o rs Answer.Silent (p .full i l)
-        | no l ↦ ap isSilent (kept-absent es i o rs Answer.Silent (absent l)) ∙ sym (ap (λ e. not (hasAnswer (e .operation))) (List·getD-eq-default es noEvent {n = i} (omega arith)))
+        | no l ↦ ap isSilent (kept-absent es i o rs Answer.Silent (absent p i l)) ∙ sym (ap (λ e. not (hasAnswer (e .operation))) (List·getD-eq-default es noEvent {n = i} (omega arith)))
       ]
-    where
-      absent : (i < length es → ⊥) → has i o ≡ false
-      absent l = split (has i o) (λ e. absurd (l (in-range p i e))) (λ e. e)
 
   -- so a packet has one, received or sent out
   pub packet-line : (o : List ℕ) → IsOrderOf (length es) o → (rs : List Row) (i w : ℕ) (g : Origin) (p : Packet)

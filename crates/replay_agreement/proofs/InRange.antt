@@ -16,6 +16,7 @@ use Rattle.flow_table.specs.Switches.{Tables, switchOf, stepOf, answerOf}
 use Rattle.flow_table.proofs.Effects.{length-after}
 use Rattle.order_meaning.specs.Tables.{endTables, answers}
 use Rattle.rows.specs.Rows.{tableOf}
+use Rattle.replay_answers.proofs.AnswerLines.{AnswerShort}
 use Rattle.replay_agreement.specs.Types.{Answer, Operation, Effect, Action, Key, Entry, Ordering, Row}
 
 -- ---- one event
@@ -55,14 +56,7 @@ range-after (Effect.Dels k) t h r = range-remove (sameKey k) t r
 range-after (Effect.Deln m) t h r = range-remove (inside m) t r
 range-after Effect.Idle t h r = r
 
--- ---- its answer: in range, with a count of at most three digits
-abbrev pub AnswerShort : Answer → Type 0
-AnswerShort Answer.Silent = Unit {0}
-AnswerShort Answer.Miss = Unit {0}
-AnswerShort (Answer.Hit priority count a) = (priority < 65536) × (count < 1000) × ActionInRange a
-AnswerShort (Answer.Done b) = Unit {0}
-
--- of an answer, if there is one
+-- ---- its answer, if there is one
 abbrev pub Short : Option Answer → Type 0
 Short none = Unit {0}
 Short (some a) = AnswerShort a

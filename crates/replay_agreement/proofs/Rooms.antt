@@ -1,15 +1,12 @@
 -- Buffers of these lengths are never too short: 29,440 bytes for a normal text (`normal-room`), 58,880 for end tables (`tables-room`),
 -- 7,168 for answers (`answers-room`), 65,280 for a list (`list-room`). A line of a table has at most 115 bytes, an answer line 28,
 -- and there are such lines (`row-longest`, `answer-longest`). Assumes nothing.
-use mathlib.Core.Path.{_≡_, refl, ap, subst}
+use mathlib.Core.Path.{_≡_, refl, ap}
 use mathlib.Core.Bool.{Bool, true, false, cond}
 use mathlib.Core.Logic.{inr}
-use mathlib.Core.Option.{Option, none, some}
-use mathlib.Core.List.{List, [], _∷_, _++_, List·Memᴰ, List·Memᴰ·not-nil}
-use Prim.Native.Nat.{ℕ, zero, suc, _+_, _*_, _≤_, _<_}
-use native.Mathlib.Decide.{decLt}
+use mathlib.Core.List.{List, [], _++_}
+use Prim.Native.Nat.{ℕ, zero, suc, _*_, _≤_, _<_}
 use native.Mathlib.Omega.{arith}
-use lib.Dec.{eqb}
 use lib.ListN.{length, length-append}
 use Rattle.basics.specs.Text.{bytes}
 use Rattle.text_numbers.specs.Print.{decimal, printNumber, hexDigit, hexadecimal, printHex}
@@ -17,32 +14,30 @@ use Rattle.text_numbers.proofs.Print.{print-short}
 use Rattle.text_fields.specs.Types.{Exact, Prefix, Match}
 use Rattle.text_fields.specs.Print.{printExact, printPrefix, printLast, printFields, printMatch, printAction, printKey, printEntry}
 use Rattle.text_put_fields.proofs.Lengths.{action-most}
-use Rattle.flow_table.specs.FlowTable.{TableInRange, entry}
+use Rattle.flow_table.specs.FlowTable.{entry}
 use Rattle.order_meaning.specs.Tables.{endTables, answers}
-use Rattle.rows.specs.Rows.{row, tableOf, tablesOf}
-use Rattle.rows.proofs.TablesOf.{row-entry}
+use Rattle.rows.specs.Rows.{row, tablesOf}
 use Rattle.list_pairs.specs.List.{listOf, pairBytes}
 use Rattle.list_pairs.proofs.PairLaws.{bytes-length}
 use Rattle.list_pairs.proofs.Sizes.{count-most}
 use Rattle.list_verdicts.specs.Kinds.{listed}
 use Rattle.trace_text.specs.TraceText.{readTrace}
-use Rattle.trace_text.proofs.Accepted.{trace-accepted-iff, events-in-range}
-use Rattle.tables_text.specs.TableText.{printRow, RowInRange, readTables}
-use Rattle.tables_text.proofs.Accepted.{accepted-sorted, accepted-range, accepted-length}
+use Rattle.trace_text.proofs.Accepted.{trace-accepted-iff}
+use Rattle.tables_text.specs.TableText.{printRow, readTables}
+use Rattle.tables_text.proofs.Accepted.{accepted-range, accepted-length}
 use Rattle.tables_normal.specs.Normal.{normalText, tablesText}
 use Rattle.tables_normal.proofs.Writing.{normal-most}
 use Rattle.order_check.specs.Schedule.{checkOrder}
-use Rattle.order_check.proofs.Accepted.{order-accepted-iff}
 use Rattle.order_rows.specs.Runs.{operationAt, givenOr}
 use Rattle.order_rows.specs.Inner.{runRows}
-use Rattle.order_rows.proofs.EndTables.{run-tables}
 use Rattle.replay_answers.specs.Answers.{printItem, isSilent, printAnswer, answersText}
+use Rattle.replay_answers.proofs.AnswerLines.{AnswerShort}
 use Rattle.replay_call.specs.Replay.{answerLines}
-use Rattle.replay_call.proofs.RowsAreTables.{end-beyond, end-text, end-count}
+use Rattle.replay_call.proofs.RowsAreTables.{end-text, end-count}
 use Rattle.replay_call.proofs.Theorems.{never-41}
 use Rattle.replay_agreement.specs.Types.{Action, Answer, Event, Row}
 use Rattle.replay_agreement.specs.Buffers.{LongEnough}
-use Rattle.replay_agreement.proofs.InRange.{AnswerShort, Short, end-in-range, answers-short, table-in-range, entry-in-range}
+use Rattle.replay_agreement.proofs.EndInRange.{end-rows-in-range, given-short}
 use Rattle.replay_agreement.proofs.Demand3.{room-enough}
 
 -- ---- the longest lines
@@ -92,18 +87,6 @@ unfolding answersText
 text-most f h zero l = omega arith
 text-most f h (suc n) l = simp length-append (omega (arith, text-most f h n (omega arith), answer-most n (f n) (omega arith) (h n)))
 
-given-short : (x : Option Answer) → Short x → AnswerShort (givenOr Answer.Silent x)
-given-short none h = tt
-given-short (some a) h = h
-
-table-length : (w : ℕ) (rs : List Row) → length (tableOf w rs) ≤ length rs
-table-length w [] = omega arith
-table-length w (x ∷ xs) = go (eqb w (x .switch)) (table-length w xs)
-  where
-    go : (b : Bool) → length (tableOf w xs) ≤ length xs → length (cond b (x .entry ∷ tableOf w xs) (tableOf w xs)) ≤ suc (length xs)
-    go true ih = omega arith
-    go false ih = omega arith
-
 -- ---- of an accepted trace
 module _ (s : List ℕ) (es : List Event) (trace : readTrace s ≡ inr es) where
   few : length es ≤ 256
@@ -115,28 +98,13 @@ module _ (s : List ℕ) (es : List Event) (trace : readTrace s ≡ inr es) where
 
   -- and the replay of an accepted order from an accepted table text
   module _ (t : List ℕ) (rs : List Row) (tables : readTables t ≡ inr rs) (o : List ℕ) (order : checkOrder es o ≡ inr tt) where
-    start-in-range : (w : ℕ) → TableInRange (tableOf w rs)
-    start-in-range w = table-in-range w rs (λ r m. accepted-range t rs tables r m .entry)
-
-    end-rows-in-range : (r : Row) → List·Memᴰ r (runRows es o rs) → RowInRange r
-    end-rows-in-range r m =
-        let here = row-entry r (runRows es o rs) m in record {
-          switch = elim (decLt (r .switch) 16) [
-            | yes l ↦ l
-            | no l ↦ absurd (List·Memᴰ·not-nil (subst (List·Memᴰ (r .entry)) (end-beyond s t es rs trace tables o (r .switch) (omega arith)) here))
-          ];
-          entry = entry-in-range (endTables (operationAt es) o (tablesOf rs) (r .switch))
-              (end-in-range (operationAt es) (λ i. events-in-range s es trace i .effect) o (tablesOf rs) start-in-range (r .switch))
-              (r .entry) (subst (List·Memᴰ (r .entry)) (run-tables es o rs (accepted-sorted t rs tables) (r .switch)) here);
-        }
-
     -- its end tables
     pub tables-room : length (tablesText (endTables (operationAt es) o (tablesOf rs))) ≤ 58880
     tables-room =
         omega (
           arith,
           ap length (end-text s t es rs trace tables o),
-          normal-most (runRows es o rs) end-rows-in-range,
+          normal-most (runRows es o rs) (end-rows-in-range s t es rs trace tables o),
           end-count s t es rs trace tables o,
           never-41 s t o es rs trace tables order,
         )
@@ -145,13 +113,7 @@ module _ (s : List ℕ) (es : List Event) (trace : readTrace s ≡ inr es) where
     pub answers-room : length (answerLines es o (tablesOf rs)) ≤ 7168
     unfolding answerLines
     answers-room =
-        let size = order-accepted-iff es o .0 order .0 .size in
-        let held = accepted-length t rs tables in
-        let most = text-most (λ i. givenOr Answer.Silent (answers (operationAt es) o (tablesOf rs) i))
-        (λ i. given-short (answers (operationAt es) o (tablesOf rs) i)
-        (answers-short (operationAt es) (λ k. events-in-range s es trace k .effect) o (tablesOf rs) start-in-range (λ w. omega (arith, few, table-length w rs)) i))
-        (length es) few in
-        omega (arith, few)
+        omega (arith, few, text-most (λ i. givenOr Answer.Silent (answers (operationAt es) o (tablesOf rs) i)) (given-short s t es rs trace tables o order) (length es) few)
 
     -- so neither 32 nor 33 applies
     pub never-short : (a b : ℕ) → 58880 ≤ a → 7168 ≤ b → LongEnough s t o a b

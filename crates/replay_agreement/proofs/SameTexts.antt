@@ -1,6 +1,6 @@
 -- Allowed orders leave the same tables and answers as the recorded order, so that both texts of a replay are the same, and table texts
 -- that hold the same entries have the same rows. Assumes nothing.
-use mathlib.Core.Path.{_≡_, sym, ap, _∙_, fun-ext}
+use mathlib.Core.Path.{_≡_, fun-ext}
 use mathlib.Core.Bool.{true}
 use mathlib.Core.List.{List}
 use mathlib.Core.Logic.{inr}
@@ -15,13 +15,23 @@ use Rattle.happens_before.specs.Causality.{before}
 use Rattle.happens_before.proofs.Chains.{before-iff}
 use Rattle.list_pairs.proofs.Theorems.{list-members}
 use Rattle.tables_text.specs.TableText.{readTables, HoldSame}
+use Rattle.tables_text.proofs.Accepted.{accepted-range}
 use Rattle.tables_normal.specs.Normal.{tablesText}
-use Rattle.tables_normal.proofs.Theorems.{normal-accepted, same-normal}
+use Rattle.tables_normal.proofs.Theorems.{normal-injective, same-normal}
 use Rattle.order_rows.specs.Runs.{operationAt, givenOr, recorded}
 use Rattle.replay_agreement.specs.Types.{Answer, Event, Row}
 use Rattle.replay_agreement.specs.Allowed.{Allowed}
 use Rattle.replay_answers.specs.Answers.{answersText}
 use Rattle.replay_call.specs.Replay.{answerLines, textsOf}
+
+-- orders that leave the same tables and answers write the same texts
+pub same-told : (es : List Event) (o q : List ℕ) (start : Tables) → ((w : ℕ) → endTables (operationAt es) o start w ≡ endTables (operationAt es) q start w)
+    → ((i : ℕ) → answers (operationAt es) o start i ≡ answers (operationAt es) q start i) → textsOf es o start ≡ textsOf es q start
+unfolding answerLines
+same-told es o q start f g = λ i. record {
+  tables = tablesText (fun-ext f i);
+  answers = answersText (λ k. givenOr Answer.Silent (g k i)) (length es);
+}
 
 module _ (es : List Event) (o : List ℕ) (allowed : Allowed es o) where
   keeps-before : (i j : ℕ) → i < j → j < length es → before es i j ≡ true → stands i j o ≡ true
@@ -40,13 +50,9 @@ module _ (es : List Event) (o : List ℕ) (allowed : Allowed es o) where
 
   -- both texts are those of the recorded order
   pub same-texts : (start : Tables) → InOrder start → textsOf es o start ≡ textsOf es (recorded es) start
-  unfolding answerLines
-  same-texts start g = λ i. record {
-    tables = tablesText (fun-ext (end-tables start g) i);
-    answers = answersText (λ k. givenOr Answer.Silent (end-answers start g k i)) (length es);
-  }
+  same-texts start g = same-told es o (recorded es) start (end-tables start g) (end-answers start g)
 
 -- accepted texts that hold the same entries on the same switches have the same rows
 pub hold-same-rows : (t u : List ℕ) (rs qs : List Row) → readTables t ≡ inr rs → readTables u ≡ inr qs → HoldSame t u → rs ≡ qs
 hold-same-rows t u rs qs p q same =
-    let e : inr rs ≡ inr qs = sym (normal-accepted t rs p) ∙ ap readTables (same-normal t u rs qs p q .1 same) ∙ normal-accepted u qs q in cc
+    normal-injective rs qs (accepted-range t rs p) (accepted-range u qs q) (same-normal t u rs qs p q .1 same)

@@ -1,5 +1,6 @@
 -- The normal form of a table text is accepted (`normal-accepted`), normal already (`normal-again`), holds the same entries
--- (`normal-holds`), and is the same for two texts just where they do (`same-normal`). Assumes nothing.
+-- (`normal-holds`), and is the same for two texts just where they do (`same-normal`). Of any rows in range, one text is one list of
+-- rows (`normal-injective`). Assumes nothing.
 use Prim.Native.Nat.{ℕ, zero, suc, _<_}
 use mathlib.Core.Bool.{true}
 use mathlib.Core.List.{List, [], _∷_, map, List·Memᴰ, List·Memᴰ·head, List·Memᴰ·tail}
@@ -7,9 +8,9 @@ use mathlib.Core.Logic.{_↔_, _⊎_, inl, inr}
 use mathlib.Core.Option.{some, Option·some-injective}
 use mathlib.Core.Path.{_≡_, refl, sym, _∙_, ap, subst}
 use native.Mathlib.Omega.{arith}
-use lib.ListN.{getD, getElem?, length-map}
+use lib.ListN.{length, getD, getElem?, length-append, length-map}
 use Rattle.text_numbers.proofs.Readers.{nothing}
-use Rattle.text_lines.specs.Lines.{lines, endsWithLf}
+use Rattle.text_lines.specs.Lines.{lines, unlines, endsWithLf}
 use Rattle.text_lines.specs.Inner.{newlines}
 use Rattle.text_lines.proofs.Lines.{lines-plain, lines-unlines, unlines-ends}
 use Rattle.flow.proofs.Orders.{equal≢less}
@@ -22,10 +23,22 @@ use Rattle.flow.specs.declared.ordering.Ordering.{Ordering}
 use Rattle.tables_normal.specs.Types.{Row}
 use Rattle.tables_text.specs.TableText.{printRow, readTables, HoldSame}
 use Rattle.tables_normal.specs.Normal.{normalText, normalised}
-use Rattle.tables_text.proofs.RowFormat.{row-format}
+use Rattle.tables_normal.specs.Inner.{RowsInRange}
+use Rattle.tables_text.proofs.RowFormat.{row-format, row-unique}
 use Rattle.tables_text.proofs.Lines.{printed}
 use Rattle.tables_normal.proofs.Writing.{normal-most}
 use Rattle.tables_text.proofs.Accepted.{accepting, accepted-holds, accepted-sorted, accepted-range, accepted-length}
+
+-- ---- one text is one list of rows
+pub normal-injective : (rs qs : List Row) → RowsInRange rs → RowsInRange qs → normalText rs ≡ normalText qs → rs ≡ qs
+unfolding normalText unlines
+normal-injective [] [] h k e = refl
+normal-injective [] (q ∷ qs) h k e = absurd (omega (arith, ap length e, length-append (printRow q) (10 ∷ normalText qs)))
+normal-injective (r ∷ rs) [] h k e = absurd (omega (arith, ap length e, length-append (printRow r) (10 ∷ normalText rs)))
+normal-injective (r ∷ rs) (q ∷ qs) h k e =
+    let (one, rest) = row-unique r q (h r (List·Memᴰ·head refl)) (k q (List·Memᴰ·head refl)) (normalText rs) (normalText qs) e in
+    let others = normal-injective rs qs (λ x m. h x (List·Memᴰ·tail m)) (λ x m. k x (List·Memᴰ·tail m)) rest in
+    λ i. one i ∷ others i
 
 -- ---- the normal text is accepted
 -- rows in order are sorted already
@@ -108,8 +121,7 @@ module _ (s t : List ℕ) (rs qs : List Row) (p : readTables s ≡ inr rs) (q : 
     where
       to : normalText rs ≡ normalText qs → HoldSame s t
       to e r =
-          let z : inr rs ≡ inr qs = sym (normal-accepted s rs p) ∙ ap readTables e ∙ normal-accepted t qs q in
-          let h : rs ≡ qs = cc in (
+          let h = normal-injective rs qs (accepted-range s rs p) (accepted-range t qs q) e in (
             λ w. accepted-holds t qs q r .1 (subst (List·Memᴰ r) h (accepted-holds s rs p r .0 w)),
             λ w. accepted-holds s rs p r .1 (subst (List·Memᴰ r) (sym h) (accepted-holds t qs q r .0 w)),
           )

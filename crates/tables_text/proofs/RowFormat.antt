@@ -1,18 +1,18 @@
--- The text of a line: exactly the texts of rows are read, each as its row.
+-- The text of a line: exactly the texts of rows are read, each as its row, and no other row has that text (`row-unique`).
 use Prim.Native.Nat.{ℕ}
 use mathlib.Core.Bool.{true}
-use mathlib.Core.List.{List}
+use mathlib.Core.List.{List, _∷_, _++_}
 use mathlib.Core.Logic.{_↔_}
 use mathlib.Core.Option.{Option, none, some, Option·some-injective}
 use mathlib.Core.Path.{_≡_, refl, _∙_, ap}
 use native.Mathlib.Omega.{arith}
 use borrow.Author.Tests.{eq-eqb, eqb-true}
 use lib.Dec.{eqb}
-use lib.ListN.{length}
+use lib.ListN.{length, drop}
 use Rattle.basics.specs.Text.{bytes}
 use Rattle.text_numbers.proofs.Readers.{nothing, on-cond}
 use Rattle.text_numbers.proofs.Numbers.{number-format}
-use Rattle.text_numbers.proofs.Format.{Format, keyed-format, along, both-format, whole}
+use Rattle.text_numbers.proofs.Format.{Format, lf-ends, keyed-format, along, both-format, whole, unique-before}
 use Rattle.text_fields.proofs.EntryFormats.{entry-follows, entry-format}
 use Rattle.text_fields.proofs.Ranges.{entry-range}
 use Rattle.text_fields.specs.Written.{clearEntry}
@@ -50,3 +50,9 @@ row-range r = (
   λ (w, c). record { switch = w .switch; entry = entry-range (r .entry) .0 (w .entry, c) },
   λ i. let (w, c) = entry-range (r .entry) .1 (i .entry) in (record { switch = i .switch; entry = w }, c),
 )
+
+-- a line and its LF, with whatever behind: one row's
+pub row-unique : (r q : Row) → RowInRange r → RowInRange q → (u v : List ℕ) → printRow r ++ (10 ∷ u) ≡ printRow q ++ (10 ∷ v) → (r ≡ q) × (u ≡ v)
+row-unique r q h k u v e =
+    let (one, rest) = unique-before reader-format r q (row-range r .1 h .0) (row-range q .1 k .0) (10 ∷ u) (10 ∷ v) (lf-ends u) (lf-ends v) e in
+    (one, ap (drop 1) rest)

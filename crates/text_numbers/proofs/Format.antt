@@ -3,7 +3,7 @@ use Prim.Native.Nat.{ℕ, _+_, _<_, _^_}
 use mathlib.Core.Logic.{_↔_}
 use mathlib.Core.List.{List, [], _∷_, _++_, append-assoc, append-nil}
 use mathlib.Core.Option.{some}
-use mathlib.Core.Path.{_≡_, refl, sym, _∙_, subst}
+use mathlib.Core.Path.{_≡_, refl, sym, _∙_, ap, subst}
 use native.Mathlib.Nat.{zero-add}
 use native.Mathlib.Omega.{arith}
 use lib.ListN.{length, drop, length-append}
@@ -11,7 +11,7 @@ use lib.Seq.{drop-drop, drop-length}
 use Rattle.text_numbers.specs.Reading.{Reader, startsWith, andThen, mapped, keyed, both}
 use Rattle.text_numbers.specs.Number.{isDigit, readNumber}
 pub use Rattle.text_numbers.specs.Format.{Ends, Follows, Format}
-use Rattle.text_numbers.proofs.Readers.{nothing, same-value, same-place, on-cond, on-read, behind}
+use Rattle.text_numbers.proofs.Readers.{nothing, same-value, same-place, on-cond, on-read, behind, one-reading}
 use Rattle.text_numbers.proofs.Numbers.{number-format}
 use Rattle.text_numbers.proofs.Keys.{starts-self, starts-key, past-key}
 
@@ -24,6 +24,11 @@ ends-nil = record { digit = refl; comma = refl }
 pub space-ends : (w : List ℕ) → Ends (32 ∷ w)
 unfolding isDigit
 space-ends w = record { digit = refl; comma = refl }
+
+-- and an LF
+pub lf-ends : (w : List ℕ) → Ends (10 ∷ w)
+unfolding isDigit
+lf-ends w = record { digit = refl; comma = refl }
 
 -- the place after a value, said of the texts
 module _ (a b : List ℕ) (at : ℕ) where
@@ -124,9 +129,15 @@ module _ {A : Type 0} {ok : A → Type 0} {print : A → List ℕ} {read : Reade
       from : ok a × (s ≡ print a) → read s 0 ≡ some (a, length s)
       from (o, t) = format .reads a o s 0 [] ends-nil (t ∙ sym (append-nil (print a))) ∙ rw (zero-add, t)
 
-  -- one text is one value
+  -- one text is one value, with what ends it behind
+  pub unique-before : (a b : A) → ok a → ok b → (u v : List ℕ) → Ends u → Ends v → print a ++ u ≡ print b ++ v → (a ≡ b) × (u ≡ v)
+  unique-before a b o q u v h k e =
+      let s = print a ++ u in
+      one-reading read s (print a) (print b) u v (format .reads a o s 0 u h refl) (format .reads b q s 0 v k e) refl e
+
+  -- and by itself
   pub unique : (a b : A) → ok a → ok b → print a ≡ print b → a ≡ b
-  unique a b o q e = same-value (sym (whole (print a) a .1 (o, refl)) ∙ whole (print a) b .1 (q, e))
+  unique a b o q e = unique-before a b o q [] [] ends-nil ends-nil (ap (λ (s : List ℕ). s ++ []) e) .0
 
 -- ---- the same texts for values that are made of others: each that is ok is made of one that is
 module _ {A B : Type 0} {ok : A → Type 0} {ok′ : B → Type 0} {print : A → List ℕ} {read : Reader A} {read′ : Reader B}

@@ -36,6 +36,13 @@ on-read (some r) g e = g (r .0) (r .1) refl e
 pub behind : (w rest s : List ℕ) (at : ℕ) → drop at s ≡ w ++ rest → drop (at + length w) s ≡ rest
 behind w rest s at h = rw (← drop-drop, h) (drop-append-seam w rest)
 
+-- one text with the texts of two values in front, read as each: they are one value, and what stands behind is the same
+pub one-reading : {A : Type 0} (read : Reader A) (s : List ℕ) {a b : A} (w x u v : List ℕ) → read s 0 ≡ some (a, 0 + length w) → read s 0 ≡ some (b, 0 + length x)
+    → s ≡ w ++ u → s ≡ x ++ v → (a ≡ b) × (u ≡ v)
+one-reading read s w x u v e f p q =
+    let z = sym e ∙ f in
+    (same-value z, sym (behind w u s 0 p) ∙ ap (λ (n : ℕ). drop n s) (same-place z) ∙ behind x v s 0 q)
+
 -- the byte at a place is the first from there on
 pub here : (s : List ℕ) (at : ℕ) → getD s at 0 ≡ getD (drop at s) 0 0
 here s at = sym (getD-drop at s 0 0 ∙ rw add-zero)

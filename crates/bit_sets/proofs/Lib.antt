@@ -1,0 +1,3 @@
+pub mod BitLaws
+pub mod Members
+pub mod NextLaws

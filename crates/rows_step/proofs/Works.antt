@@ -62,12 +62,12 @@ module _ (q : Row → Bool) where
   stays a h [] = refl
   stays a h (x ∷ xs) = split (q x) (λ u. rw (u, h (x .entry)) (stays a h xs)) (λ u. rw u (stays a h xs))
 
-  silent-stays : (rs : List Row) → Answer.Silent ≡ seenRows q Answer.Silent rs
+  pub silent-stays : (rs : List Row) → Answer.Silent ≡ seenRows q Answer.Silent rs
   unfolding seen
   silent-stays rs = sym (stays Answer.Silent (λ e. refl) rs)
 
   -- done unless a row passes
-  done-unless : (rs : List Row) → seenRows q (Answer.Done true) rs ≡ Answer.Done (not (anyRow q rs))
+  pub done-unless : (rs : List Row) → seenRows q (Answer.Done true) rs ≡ Answer.Done (not (anyRow q rs))
   unfolding seenRows seen anyRow
   done-unless [] = refl
   done-unless (x ∷ xs) = split (q x) (λ u. rw u (stays (Answer.Done false) (λ e. refl) xs)) (λ u. rw u (done-unless xs))

@@ -1,0 +1,8 @@
+pub mod Members
+pub mod Looking
+pub mod Assigning
+pub mod StepEnd
+pub mod RunLaws
+pub mod SameAnswers
+pub mod Comparing
+pub mod SameEnds

@@ -5,7 +5,7 @@ use mathlib.Core.Bool.{true, false, not}
 use mathlib.Core.Logic.{_↔_}
 use mathlib.Core.List.{List, [], _∷_, _++_}
 use Prim.Native.Nat.{ℕ, zero, suc, _+_, _*_, _/_, _≤_, _<_}
-use native.Mathlib.Nat.{mul-zero, zero-mul, suc-mul, mul-div-cancel, mul-le-mul-right}
+use native.Mathlib.Nat.{mul-zero, zero-mul, suc-mul, mul-div-cancel, div-mul-le-self, mul-le-mul-right}
 use native.Mathlib.Decide.{ℕ-discrete}
 use native.Mathlib.Omega.{arith}
 use lib.Dec.{eqb}
@@ -22,6 +22,11 @@ use Rattle.order_trials.specs.Trials.{orderCount, uneven, orderAt, order
 pub count-even : (n len : ℕ) → uneven n len ≡ false → orderCount n len * n ≡ len
 unfolding uneven
 count-even n len h = eqb-true (orderCount n len * n) len (not-false _ h)
+
+-- the orders are no longer than the bytes
+pub count-most : (n len : ℕ) → orderCount n len * n ≤ len
+unfolding orderCount
+count-most n len = split (eqb n 0) (λ z. rw (z, zero-mul n) (omega arith)) (λ z. rw z (div-mul-le-self len n))
 
 counted : (n len m : ℕ) → len ≡ m * n → orderCount n len * n ≡ len
 unfolding orderCount

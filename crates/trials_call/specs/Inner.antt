@@ -33,7 +33,7 @@ pub record Sound (n : ℕ) (earlier plans : List (List ℕ)) (codes : List ℕ) 
   pub few : n ≤ 256
   pub events : (i j : ℕ) → bit earlier i j ≡ true → i < n
   pub actions : (i : ℕ) → getD codes i 0 < 65538
-  pub plans : (e : ℕ) → e < 256 → (getD (getD plans e []) 1 0 < 65538) × (getD (getD plans e []) 3 0 < 512) × (getD (getD plans e []) 4 0 < 65538)
+  pub planned : (e : ℕ) → e < 256 → (getD (getD plans e []) 1 0 < 65538) × (getD (getD plans e []) 3 0 < 512) × (getD (getD plans e []) 4 0 < 65538)
 
 -- it is that of the events from the rows: happens-before, the slots with the steps of all events, the starting rows as slots, and how
 -- the recorded order ends

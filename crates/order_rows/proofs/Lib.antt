@@ -1,2 +1,3 @@
 pub mod EndTables
 pub mod Answering
+pub mod Turns

@@ -6,3 +6,4 @@ pub use Rattle.flow_table.specs.declared.operation.TableOperation.{TableOperati
 pub use Rattle.flow_table.specs.declared.effect.Effect.{Effect}
 pub use Rattle.rows.specs.declared.row.Row.{Row}
 pub use Rattle.trace_events.specs.declared.event.Event.{Event}
+pub use Rattle.replay_answers.specs.declared.kept.Kept.{Kept}

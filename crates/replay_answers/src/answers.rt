@@ -12,7 +12,7 @@ ghost use Rattle.text_numbers.specs.Inner.{Put};
 ghost use Rattle.replay_answers.specs.Answers.{isSilent, printItem, printAnswer, answersText};
 ghost use Rattle.replay_answers.specs.Inner.{keptAt};
 
-fn is_silent(a: Answer) -> bool
+pub fn is_silent(a: Answer) -> bool
     ensures { λ r. ⌜ r ≡ isSilent a ⌝ }
 {
     match a {

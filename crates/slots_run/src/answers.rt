@@ -1,20 +1,9 @@
 // Whether two answers are the same.
 use flow::Action;
 use flow_table::Answer;
+use replay_answers::is_silent;
 ghost use mathlib.Core.Path.{_≡_};
-ghost use Rattle.replay_answers.specs.Answers.{isSilent};
 ghost use Rattle.slots_run.specs.Inner.{isMiss, isHit, isDone, sameAnswer};
-
-fn is_silent(a: Answer) -> bool
-    ensures { λ r. ⌜ r ≡ isSilent a ⌝ }
-{
-    match a {
-        Answer::Silent => true,
-        Answer::Miss => false,
-        Answer::Hit(_, _, _) => false,
-        Answer::Done(_) => false,
-    }
-}
 
 fn is_miss(a: Answer) -> bool
     ensures { λ r. ⌜ r ≡ isMiss a ⌝ }

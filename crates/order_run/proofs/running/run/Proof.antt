@@ -15,8 +15,9 @@ use Rattle.rows_step.proofs.Passing.{Passing, Passed, pass-start, pass-turn, pa
 use Rattle.rows_search.proofs.Searches.{Searched, search-start, search-less, search-turn, search-end}
 use Rattle.rows_search.proofs.Shifts.{Shifting, bounds, shift-start, shift-turn, shift-end}
 use Rattle.order_rows.specs.Runs.{operationAt}
+use Rattle.order_rows.proofs.Turns.{rows-done, answers-done}
 use Rattle.order_run.specs.Types.{Operation, Row}
-use Rattle.order_run.proofs.RunLaws.{operation-here, Runs, run-start, run-turn, rows-done, answers-done}
+use Rattle.order_run.proofs.RunLaws.{operation-here, Runs, run-start, run-turn}
 use Rattle.order_run.proofs.running.run.Statement.{statement}
 use Rattle.order_run.proofs.running.run.Tie as tie
 
@@ -276,8 +277,8 @@ returns : tie.Need-returns Inv-loop2 μ-loop2 Inv-loop3 μ-loop3 Inv-loop4 μ-lo
 returns c =
     let l = c .before .loop in
     record {
-      rows = rows-done _ _ _ _ _ _ _ _ (l .inv .1) (c .loop-test .left);
-      answers = answers-done _ _ _ _ _ _ _ _ (l .inv .1) (c .loop-test .left);
+      rows = rows-done _ _ _ _ _ _ (l .inv .1 .come) (c .loop-test .left);
+      answers = answers-done _ _ _ _ _ _ (l .inv .1 .come) (c .loop-test .left);
       size = omega (arith, l .inv .1 .count, l .inv .1 .here);
     }
 

@@ -50,7 +50,8 @@ module _ (es : List Event) (rs : List Row) (held : Held es rs) (o q : List ℕ) 
     λ h.
         let a = agreeing-iff es (tablesOf rs) o q .0 h in
         let none : (p : List ℕ) (w : ℕ) → 16 ≤ w → tableOf w (runRows es p rs) ≡ [] = λ p w l. run-beyond es 16 (held .switches) p rs (held .sorted) (held .beyond) w l in
-        let tables : (w : ℕ) → tableOf w (runRows es o rs) ≡ tableOf w (runRows es q rs) = λ w. elim (decLt w 16) [ yes l ↦ left o w ∙ a .0 w l ∙ sym (left q w) | no g ↦ none o w (omega arith) ∙ sym (none q w (omega arith)) ] in
-        (same-tables (runRows es o rs) (runRows es q rs) (run-sorted es o rs (held .sorted)) (run-sorted es q rs (held .sorted)) tables,
-        λ i l. kept o order i ∙ ap (givenOr Answer.Silent) (a .1 i l) ∙ sym (kept q other i)),
+        let tables : (w : ℕ) → tableOf w (runRows es o rs) ≡ tableOf w (runRows es q rs) = λ w. elim (decLt w 16) [ yes l ↦ left o w ∙ a .0 w l ∙ sym (left q w) | no g ↦ none o w (omega arith) ∙ sym (none q w (omega arith)) ] in (
+          same-tables (runRows es o rs) (runRows es q rs) (run-sorted es o rs (held .sorted)) (run-sorted es q rs (held .sorted)) tables,
+          λ i l. kept o order i ∙ ap (givenOr Answer.Silent) (a .1 i l) ∙ sym (kept q other i),
+        ),
   )

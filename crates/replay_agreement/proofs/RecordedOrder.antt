@@ -3,17 +3,16 @@
 use mathlib.Core.Path.{_≡_, sym, ap, _∙_}
 use mathlib.Core.List.{List}
 use mathlib.Core.Logic.{inr}
-use Prim.Native.Nat.{ℕ, zero, suc, _+_, _<_}
+use Prim.Native.Nat.{ℕ, _<_}
 use native.Mathlib.Omega.{arith}
 use lib.ListN.{length, getD, take}
-use lib.Seq.{ext-getD, getD-take, length-take-le}
 use Rattle.text_lines.specs.Inner.{newlines}
 use Rattle.text_lines.proofs.Lines.{lines-count}
-use Rattle.order_meaning.specs.Orders.{from}
 use Rattle.list_pairs.proofs.Theorems.{list-members}
 use Rattle.trace_text.specs.TraceText.{readTrace}
 use Rattle.trace_text.proofs.Accepted.{trace-accepted-iff, lines-length}
 use Rattle.order_check.proofs.Accepted.{stands-from, recorded-order, recorded-keeps}
+use Rattle.order_check.proofs.RecordedBytes.{recorded-prefix}
 use Rattle.order_rows.specs.Runs.{recorded}
 use Rattle.replay_agreement.specs.Types.{Event}
 use Rattle.replay_agreement.specs.Allowed.{Allowed}
@@ -26,18 +25,10 @@ recorded-allowed es = record {
 }
 
 -- ---- the recorded order as bytes
-place-in : (b n i : ℕ) → i < n → getD (from b n) i 0 ≡ b + i
-place-in b zero i h = absurd (omega arith)
-place-in b (suc n) zero h = omega arith
-place-in b (suc n) (suc i) h = omega (arith, place-in (suc b) n i (omega arith))
-
 -- of the bytes 0, 1, 2 and so on as many as an accepted trace's text has lines are its recorded order
 pub recorded-bytes : (s : List ℕ) (es : List Event) → readTrace s ≡ inr es → (r : List ℕ) → length r ≡ 256 → ((i : ℕ) → i < 256 → getD r i 0 ≡ i)
     → take (newlines s) r ≡ recorded es
 recorded-bytes s es e r size each =
     let t = trace-accepted-iff s es .0 e in
-    let few = t .few in
     let count : newlines s ≡ length es = sym (lines-count s (t .ended)) ∙ ap length (t .printed) ∙ lines-length 0 es in
-    let long : length (take (newlines s) r) ≡ length es = length-take-le (newlines s) r (omega arith) ∙ count in
-    ext-getD 0 (take (newlines s) r) (recorded es) (long ∙ sym (recorded-order (length es) .size))
-    (λ i h. getD-take (newlines s) r i 0 (omega arith) ∙ omega (arith, each i (omega arith), place-in 0 (length es) i (omega arith)))
+    ap (λ (n : ℕ). take n r) count ∙ recorded-prefix r size each (length es) (t .few)

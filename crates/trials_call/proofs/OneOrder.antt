@@ -27,7 +27,7 @@ module _ (es : List Event) (rs : List Row) (n : ℕ) (earlier masks plans : List
     (checked : outcomeOf c tt ≡ checkBy (bit earlier) n o) where
   -- the check by numbers is that of the order
   told : outcomeOf c tt ≡ checkOrder es o
-  told = checked ∙ ap (λ (k : ℕ). checkBy (bit earlier) k o) (ready .count) ∙ check-rows es earlier (ready .before) o
+  told = checked ∙ ap (λ (k : ℕ). checkBy (bit earlier) k o) (ready .start .count) ∙ check-rows es earlier (ready .start .before) o
 
   pub order-refused : {e : Refusal} → c ≡ Outcome.Refused e → 2 ≡ orderByte es (tablesOf rs) o
   unfolding orderByte
@@ -36,24 +36,25 @@ module _ (es : List Event) (rs : List Row) (n : ℕ) (earlier masks plans : List
       sym (ap (λ x. byteBy x (agreeing es (tablesOf rs) o (recorded es))) refused)
 
   -- an accepted order
-  module _ (p : c ≡ Outcome.Accepted) (r : Ended) (ends : EndsAs es (ready .slots) o set codes r) {b : Bool} (same : SameEnds r end n b) where
+  module _ (p : c ≡ Outcome.Accepted) (r : Ended) (ends : EndsAs es (ready .start .slots) o set codes r) {b : Bool} (same : SameEnds r end n b) where
     accepted : checkOrder es o ≡ inr tt
     accepted = sym told ∙ ap (λ z. outcomeOf z tt) p
 
     -- the ends are equal exactly if the rows and the answers are
     as-rows : (b ≡ true) ↔ ((runRows es o rs ≡ runRows es (recorded es) rs) × ((i : ℕ) → i < length es → answersIn es o rs i ≡ answersIn es (recorded es) rs i))
     as-rows =
-        let iff = same (ready .slots) (ready .steps .sorted) (ready .steps .few) (ends .inside) (ready .ends .inside) in
-        let mine = ends .rows ∙ ap (runRows es o) (ready .rows) in
-        let other = ready .ends .rows ∙ ap (runRows es (recorded es)) (ready .rows) in
-        let answer : (i : ℕ) → _ = λ i. ends .answers i ∙ ap (λ x. answersIn es o x i) (ready .rows) in
-        let answer' : (i : ℕ) → _ = λ i. ready .ends .answers i ∙ ap (λ x. answersIn es (recorded es) x i) (ready .rows) in
-        (λ h. let (e, f) = iff .0 h in (sym mine ∙ e ∙ other, λ i l. sym (answer i) ∙ f i (omega (arith, ready .count)) ∙ answer' i),
-        λ (e, f). iff .1 (mine ∙ e ∙ sym other, λ i l. answer i ∙ f i (omega (arith, ready .count)) ∙ sym (answer' i)))
+        let iff = same (ready .start .slots) (ready .start .steps .sorted) (ready .start .steps .few) (ends .inside) (ready .ends .inside) in
+        let mine = ends .rows ∙ ap (runRows es o) (ready .start .rows) in
+        let other = ready .ends .rows ∙ ap (runRows es (recorded es)) (ready .start .rows) in
+        let answer : (i : ℕ) → _ = λ i. ends .answers i ∙ ap (λ x. answersIn es o x i) (ready .start .rows) in
+        let answer' : (i : ℕ) → _ = λ i. ready .ends .answers i ∙ ap (λ x. answersIn es (recorded es) x i) (ready .start .rows) in (
+          λ h. let (e, f) = iff .0 h in (sym mine ∙ e ∙ other, λ i l. sym (answer i) ∙ f i (omega (arith, ready .start .count)) ∙ answer' i),
+          λ (e, f). iff .1 (mine ∙ e ∙ sym other, λ i l. answer i ∙ f i (omega (arith, ready .start .count)) ∙ sym (answer' i)),
+        )
 
     agrees : b ≡ agreeing es (tablesOf rs) o (recorded es)
     agrees =
-        let iff = rows-agree-iff es rs (ready .held) o (recorded es) (order-accepted-iff es o .0 accepted .0) (recorded-order (length es)) in
+        let iff = rows-agree-iff es rs (ready .start .held) o (recorded es) (order-accepted-iff es o .0 accepted .0) (recorded-order (length es)) in
         both-ways b (agreeing es (tablesOf rs) o (recorded es)) (λ h. iff .0 (as-rows .0 h)) (λ h. as-rows .1 (iff .1 h))
 
     pub order-ended : cond b 0 1 ≡ orderByte es (tablesOf rs) o

@@ -35,9 +35,8 @@ pub record Sound (n : ℕ) (earlier plans : List (List ℕ)) (codes : List ℕ) 
   pub actions : (i : ℕ) → getD codes i 0 < 65538
   pub planned : (e : ℕ) → e < 256 → (getD (getD plans e []) 1 0 < 65538) × (getD (getD plans e []) 3 0 < 512) × (getD (getD plans e []) 4 0 < 65538)
 
--- it is that of the events from the rows: happens-before, the slots with the steps of all events, the starting rows as slots, and how
--- the recorded order ends
-pub record Ready (es : List Event) (rs : List Row) (n : ℕ) (earlier masks plans : List (List ℕ)) (priorities set codes : List ℕ) (end : Ended) : Type 0 where
+-- it is that of the events from the rows: happens-before, the slots with the steps of all events, and the starting rows as slots
+pub record From (es : List Event) (rs : List Row) (n : ℕ) (earlier masks plans : List (List ℕ)) (priorities set codes : List ℕ) : Type 0 where
   pub count : n ≡ length es
   pub held : Held es rs
   pub before : HappensBefore es earlier
@@ -45,4 +44,8 @@ pub record Ready (es : List Event) (rs : List Row) (n : ℕ) (earlier masks plan
   pub steps : SlotsOf es slots masks plans priorities
   pub inside : Inside slots set
   pub rows : stateRows slots set codes ≡ rs
-  pub ends : EndsAs es slots (recorded es) set codes end
+
+-- and the end is that of the recorded order
+pub record Ready (es : List Event) (rs : List Row) (n : ℕ) (earlier masks plans : List (List ℕ)) (priorities set codes : List ℕ) (end : Ended) : Type 0 where
+  pub start : From es rs n earlier masks plans priorities set codes
+  pub ends : EndsAs es (start .slots) (recorded es) set codes end

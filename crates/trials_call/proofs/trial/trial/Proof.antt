@@ -11,7 +11,7 @@ returns c =
     let at-arm = at-run .before in
     let at-check = at-arm .before .before in
     λ es rs ready. rw (c .if1 .taken) at (order-ended es rs _ _ _ _ _ _ _ _ ready _ (at-check .check-order .result) (at-check .check-order .ensures) (at-arm .enum-told2 .given .1)
-    (at-run .run .result) (at-run .run .ensures .1 es (ready .slots) (ready .steps) (ready .inside)) (at-same .same .ensures))
+    (at-run .run .result) (at-run .run .ensures .1 es (ready .start .slots) (ready .start .steps) (ready .start .inside)) (at-same .same .ensures))
 
 -- an order that is refused
 returns-2 : tie.Need-returns-2
@@ -27,7 +27,7 @@ returns-3 c =
     let at-arm = at-run .before in
     let at-check = at-arm .before .before in
     λ es rs ready. rw (c .if1 .left) at (order-ended es rs _ _ _ _ _ _ _ _ ready _ (at-check .check-order .result) (at-check .check-order .ensures) (at-arm .enum-told2 .given .1)
-    (at-run .run .result) (at-run .run .ensures .1 es (ready .slots) (ready .steps) (ready .inside)) (at-same .same .ensures))
+    (at-run .run .result) (at-run .run .ensures .1 es (ready .start .slots) (ready .start .steps) (ready .start .inside)) (at-same .same .ensures))
 
 pub trial-spec : {M : Type 1} → statement M
 trial-spec =

@@ -2,4 +2,6 @@
 pub mod running;
 
 pub use running::Ran;
+pub use running::event_work;
+pub use running::operation_of;
 pub use running::run;

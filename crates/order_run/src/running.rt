@@ -20,7 +20,7 @@ ghost use lib.ListN.{length};
 ghost use Rattle.flow_table.specs.FlowTable.{effectOf};
 ghost use Rattle.flow_table.specs.Switches.{switchOf};
 ghost use Rattle.rows.specs.Rows.{rowsOf, SortedRows};
-ghost use Rattle.rows_step.specs.Inner.{WorkFor};
+ghost use Rattle.rows_step.specs.Inner.{workOf};
 ghost use Rattle.trace_events.specs.Events.{eventsOf};
 ghost use Rattle.order_run.specs.Inner.{RunsTo};
 
@@ -31,7 +31,7 @@ pub struct Ran {
 }
 
 // What an event does; nothing where the trace has no such event.
-fn operation_of(present: bool, event: Event) -> Operation
+pub fn operation_of(present: bool, event: Event) -> Operation
     ensures { λ r. ⌜ r ≡ cond present (event .operation) Operation.Other ⌝ }
 {
     if present {
@@ -41,8 +41,8 @@ fn operation_of(present: bool, event: Event) -> Operation
 }
 
 // The work of an event, by its switch and what it does to that switch's table.
-fn event_work(o: Operation) -> Work
-    ensures { λ r. ⌜ WorkFor (switchOf o) (effectOf o) r ⌝ }
+pub fn event_work(o: Operation) -> Work
+    ensures { λ r. ⌜ r ≡ workOf (switchOf o) (effectOf o) ⌝ }
 {
     work_of(switch_of(o), effect_of(o))
 }

@@ -11,7 +11,7 @@ use Rattle.rows.specs.Rows.{row, SortedRows, insertRow, removeRows, assignRow, 
 use Rattle.rows.proofs.RowLaws.{sorted-remove, sorted-assign}
 use Rattle.rows_step.specs.Types.{Packet, Action, Key, Entry, Answer, Effect, Row, Filter, Change, Put}
 use Rattle.rows_step.specs.Stepping.{effectStep, effectAnswer}
-use Rattle.rows_step.specs.Inner.{changed, isDropped, treated, seen, seenRows, withPut, WorkFor}
+use Rattle.rows_step.specs.Inner.{changed, isDropped, treated, seen, seenRows, withPut, WorkFor, putting, removing, workOf}
 use Rattle.rows_step.proofs.Lookups.{lookup-best}
 
 -- ---- a pass, row by row
@@ -80,8 +80,8 @@ nothing-passes w (x ∷ xs) = rw (and-false-right (eqb w (x .switch)) refl) (not
 
 -- ---- the work of each event
 -- nothing is asked
-pub putting-work : (s : ℕ) (v : Effect) (p : Put) → ((rs : List Row) → effectStep s v rs ≡ withPut p rs) → ((rs : List Row) → effectAnswer s v rs ≡ Answer.Silent)
-    → WorkFor s v (record { switch = 0; filter = Filter.Nothing; change = Change.Keep; put = p; answer = Answer.Silent })
+putting-work : (s : ℕ) (v : Effect) (p : Put) → ((rs : List Row) → effectStep s v rs ≡ withPut p rs) → ((rs : List Row) → effectAnswer s v rs ≡ Answer.Silent)
+    → WorkFor s v (putting p)
 unfolding changed
 putting-work s v p f g = record {
   fresh = refl;
@@ -89,7 +89,7 @@ putting-work s v p f g = record {
   answered = λ rs. g rs ∙ silent-stays _ rs;
 }
 
-pub packet-work : (s : ℕ) (p : Packet) → WorkFor s (Effect.Pkt p) (record { switch = s; filter = Filter.Fits p; change = Change.Keep; put = Put.Nothing; answer = Answer.Miss })
+packet-work : (s : ℕ) (p : Packet) → WorkFor s (Effect.Pkt p) (record { switch = s; filter = Filter.Fits p; change = Change.Keep; put = Put.Nothing; answer = Answer.Miss })
 unfolding changed effectStep effectAnswer
 packet-work s p = record {
   fresh = refl;
@@ -97,7 +97,7 @@ packet-work s p = record {
   answered = λ rs. sym (lookup-best s p rs);
 }
 
-pub checked-work : (s : ℕ) (k : Key) (a : Action) → WorkFor s (Effect.Addc k a) (record { switch = s; filter = Filter.Clash k; change = Change.Keep; put = Put.One (row s (entry k a)); answer = Answer.Done true })
+checked-work : (s : ℕ) (k : Key) (a : Action) → WorkFor s (Effect.Addc k a) (record { switch = s; filter = Filter.Clash k; change = Change.Keep; put = Put.One (row s (entry k a)); answer = Answer.Done true })
 unfolding changed effectStep effectAnswer
 checked-work s k a = record {
   fresh = refl;
@@ -105,7 +105,7 @@ checked-work s k a = record {
   answered = λ rs. sym (done-unless _ rs);
 }
 
-pub modify-work : (s : ℕ) (k : Key) (a : Action) → WorkFor s (Effect.Modn k a) (record { switch = s; filter = Filter.Within (k .pattern); change = Change.Assign a; put = Put.One (row s (entry k a)); answer = Answer.Silent })
+modify-work : (s : ℕ) (k : Key) (a : Action) → WorkFor s (Effect.Modn k a) (record { switch = s; filter = Filter.Within (k .pattern); change = Change.Assign a; put = Put.One (row s (entry k a)); answer = Answer.Silent })
 unfolding changed effectStep effectAnswer
 modify-work s k a = record {
   fresh = refl;
@@ -114,11 +114,21 @@ modify-work s k a = record {
 }
 
 -- the rows of switch s that pass are dropped
-pub removing-work : (s : ℕ) (v : Effect) (f : Filter) → ((rs : List Row) → effectStep s v rs ≡ removeRows (onSwitch s (passes f)) rs) → ((rs : List Row) → effectAnswer s v rs ≡ Answer.Silent)
-    → WorkFor s v (record { switch = s; filter = f; change = Change.Drop; put = Put.Nothing; answer = Answer.Silent })
+removing-work : (s : ℕ) (v : Effect) (f : Filter) → ((rs : List Row) → effectStep s v rs ≡ removeRows (onSwitch s (passes f)) rs) → ((rs : List Row) → effectAnswer s v rs ≡ Answer.Silent)
+    → WorkFor s v (removing s f)
 unfolding changed
 removing-work s v f h g = record {
   fresh = refl;
   rows = λ rs. h rs ∙ split (anyRow (onSwitch s (passes f)) rs) (λ u. rw u refl) (λ u. rw u refl);
   answered = λ rs. g rs ∙ silent-stays _ rs;
 }
+
+pub work-for : (s : ℕ) (v : Effect) → WorkFor s v (workOf s v)
+unfolding workOf effectStep effectAnswer
+work-for s (Effect.Pkt p) = packet-work s p
+work-for s (Effect.Add k a) = putting-work s _ _ (λ rs. refl) (λ rs. refl)
+work-for s (Effect.Addc k a) = checked-work s k a
+work-for s (Effect.Modn k a) = modify-work s k a
+work-for s (Effect.Dels k) = removing-work s _ _ (λ rs. refl) (λ rs. refl)
+work-for s (Effect.Deln m) = removing-work s _ _ (λ rs. refl) (λ rs. refl)
+work-for s Effect.Idle = putting-work s _ _ (λ rs. refl) (λ rs. refl)

@@ -1,12 +1,13 @@
 -- Inner: an event as one pass over the rows and at most one row put in: what becomes of each row, the answer so far, and what the work of an
 -- event is.
 use mathlib.Core.Path.{_≡_}
-use mathlib.Core.Bool.{Bool, false, cond}
+use mathlib.Core.Bool.{Bool, true, false, cond}
 use mathlib.Core.List.{List, [], _∷_}
 use Prim.Native.Nat.{ℕ, _+_}
 use lib.Dec.{eqb, ltb}
-use Rattle.rows.specs.Rows.{insertRow, removeRows, assignRow, assignRows, anyRow, onSwitch, passes}
-use Rattle.rows_step.specs.Types.{Action, Entry, Answer, Effect, Row, Change, Put, Work}
+use Rattle.flow_table.specs.FlowTable.{entry}
+use Rattle.rows.specs.Rows.{row, insertRow, removeRows, assignRow, assignRows, anyRow, onSwitch, passes}
+use Rattle.rows_step.specs.Types.{Action, Entry, Answer, Effect, Row, Filter, Change, Put, Work}
 use Rattle.rows_step.specs.Stepping.{effectStep, effectAnswer}
 
 -- ---- the rows that pass a test are kept, dropped or assigned
@@ -67,3 +68,21 @@ pub record WorkFor (s : ℕ) (v : Effect) (w : Work) : Type 0 where
   pub fresh : counted (w .answer) ≡ 0
   pub rows : (rs : List Row) → effectStep s v rs ≡ withPut (cond (anyRow (chosen w) rs) Put.Nothing (w .put)) (changed (w .change) (chosen w) rs)
   pub answered : (rs : List Row) → effectAnswer s v rs ≡ seenRows (chosen w) (w .answer) rs
+
+-- no row is asked, and what is put in is put in in any case
+abbrev pub putting : Put → Work
+putting p = record { switch = 0; filter = Filter.Nothing; change = Change.Keep; put = p; answer = Answer.Silent }
+
+-- the rows of switch s that pass are dropped
+abbrev pub removing : ℕ → Filter → Work
+removing s f = record { switch = s; filter = f; change = Change.Drop; put = Put.Nothing; answer = Answer.Silent }
+
+-- the work of an event, by its switch s and what it does there
+unfoldable pub workOf : ℕ → Effect → Work
+workOf s (Effect.Pkt p) = record { switch = s; filter = Filter.Fits p; change = Change.Keep; put = Put.Nothing; answer = Answer.Miss }
+workOf s (Effect.Add k a) = putting (Put.One (row s (entry k a)))
+workOf s (Effect.Addc k a) = record { switch = s; filter = Filter.Clash k; change = Change.Keep; put = Put.One (row s (entry k a)); answer = Answer.Done true }
+workOf s (Effect.Modn k a) = record { switch = s; filter = Filter.Within (k .pattern); change = Change.Assign a; put = Put.One (row s (entry k a)); answer = Answer.Silent }
+workOf s (Effect.Dels k) = removing s (Filter.Same k)
+workOf s (Effect.Deln m) = removing s (Filter.Within m)
+workOf s Effect.Idle = putting Put.Nothing

@@ -12,7 +12,7 @@ ghost use mathlib.Core.Bool.{cond};
 ghost use Prim.Native.Nat.{_+_, _<_, _≤_};
 ghost use Rattle.flow_table.specs.FlowTable.{entry};
 ghost use Rattle.rows.specs.Rows.{row};
-ghost use Rattle.rows_step.specs.Inner.{isDropped, treated, WorkFor};
+ghost use Rattle.rows_step.specs.Inner.{isDropped, treated, putting, removing, workOf};
 
 // What becomes of the rows that pass.
 pub enum Change {
@@ -85,7 +85,7 @@ pub fn next_free(k: usize, dropped: bool) -> usize
 
 // No row is asked, and what is put in is put in in any case.
 fn putting(put: Put) -> Work
-    ensures { λ r. ⌜ r ≡ record { switch = 0; filter = Filter.Nothing; change = Change.Keep; put = put; answer = Answer.Silent } ⌝ }
+    ensures { λ r. ⌜ r ≡ putting put ⌝ }
 {
     Work {
         switch: 0,
@@ -97,7 +97,7 @@ fn putting(put: Put) -> Work
 }
 
 fn removing(switch: u8, filter: Filter) -> Work
-    ensures { λ r. ⌜ r ≡ record { switch = switch; filter = filter; change = Change.Drop; put = Put.Nothing; answer = Answer.Silent } ⌝ }
+    ensures { λ r. ⌜ r ≡ removing switch filter ⌝ }
 {
     Work {
         switch,
@@ -118,7 +118,7 @@ fn one(switch: u8, key: Key, action: Action) -> Put
 
 // The work of an event, by its switch and what it does to that switch's table.
 pub fn work_of(switch: u8, effect: Effect) -> Work
-    ensures { λ r. ⌜ WorkFor switch effect r ⌝ }
+    ensures { λ r. ⌜ r ≡ workOf switch effect ⌝ }
 {
     match effect {
         Effect::Pkt(p) => Work {

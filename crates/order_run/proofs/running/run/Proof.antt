@@ -2,7 +2,7 @@
 -- the place on move up.
 use Prim.Native.Nat.{_-_, _<_}
 use native.Mathlib.Omega.{arith}
-use mathlib.Core.Path.{_≡_, _∙_, subst}
+use mathlib.Core.Path.{_≡_, sym, _∙_, subst}
 use mathlib.Core.List.{List}
 use lib.ListN.{length, getD, take, length-set}
 use borrow.Author.Needs.{needs}
@@ -11,6 +11,7 @@ use Rattle.flow_table.specs.Switches.{switchOf}
 use Rattle.trace_events.specs.Events.{eventsOf}
 use Rattle.basics.proofs.Arrays.{length-mapped}
 use Rattle.rows_step.specs.Inner.{WorkFor}
+use Rattle.rows_step.proofs.Works.{work-for as is-work-for}
 use Rattle.rows_step.proofs.Passing.{Passing, Passed, pass-start, pass-turn, pass-end, none-put, one-put}
 use Rattle.rows_search.proofs.Searches.{Searched, search-start, search-less, search-turn, search-end}
 use Rattle.rows_search.proofs.Shifts.{Shifting, bounds, shift-start, shift-turn, shift-end}
@@ -77,7 +78,10 @@ does a = operationAt (eventsOf (entered (turn a) .args .t1)) (getD (entered (tur
 
 -- the work is the event's
 work-for : (a : tie.After-event-work Inv-loop2 μ-loop2 Inv-loop3 μ-loop3 Inv-loop4 μ-loop4 Inv-loop μ-loop) → WorkFor (switchOf (does a)) (effectOf (does a)) (a .event-work .result)
-work-for a = subst (λ o. WorkFor (switchOf o) (effectOf o) (a .event-work .result)) (a .before .operation-of .ensures ∙ operation-here (entered (turn a) .args .t1) (getD (entered (turn a) .args .order .now) (turn a .before .loop .p) 0)) (a .event-work .ensures)
+work-for a =
+    subst (λ o. WorkFor (switchOf o) (effectOf o) (a .event-work .result))
+    (a .before .operation-of .ensures ∙ operation-here (entered (turn a) .args .t1) (getD (entered (turn a) .args .order .now) (turn a .before .loop .p) 0))
+    (subst (WorkFor _ _) (sym (a .event-work .ensures)) (is-work-for _ _))
 
 -- the rows that the event meets
 abbrev met-rows : (a : tie.After-event-work Inv-loop2 μ-loop2 Inv-loop3 μ-loop3 Inv-loop4 μ-loop4 Inv-loop μ-loop) → List Row

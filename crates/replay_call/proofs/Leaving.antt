@@ -6,7 +6,7 @@ use Prim.Native.Nat.{ℕ, _≤_, _<_}
 use native.Mathlib.Omega.{arith}
 use borrow.Author.Tests.{le-ltb}
 use lib.ListN.{length, length-take}
-use Rattle.refusals.specs.Checks.{Checked, _▹_, outcomeOf, written}
+use Rattle.refusals.specs.Checks.{_▹_, written}
 use Rattle.trace_events.specs.Events.{eventsOf}
 use Rattle.rows.specs.Rows.{rowsOf, SortedRows, tablesOf}
 use Rattle.tables_text.proofs.Accepted.{accepted-sorted}
@@ -21,18 +21,10 @@ use Rattle.order_rows.proofs.EndTables.{run-length}
 use Rattle.replay_texts.specs.Writing.{replayAnswer, tablesOut, answersOut}
 use Rattle.replay_texts.specs.Inner.{bothTexts, fittingBoth, Leaves}
 use Rattle.replay_texts.proofs.Leaving.{leaves-as, refused-as}
-use Rattle.replay_call.specs.Types.{Refusal, Outcome, Event, Trace, Row, Rows, Ran, ReplayAnswer}
+use Rattle.replay_call.specs.Types.{Refusal, Event, Trace, Row, Rows, Ran, ReplayAnswer}
 use Rattle.replay_call.specs.Replay.{replayed}
 use Rattle.replay_call.specs.Inner.{fromTables, rowTexts, ranFrom, orderedFrom}
 use Rattle.replay_call.proofs.RowsAreTables.{checks-are}
-
--- ---- what an outcome says, by its case
-module _ {A : Type 0} (a : A) {o : Outcome} {x : Checked A} where
-  pub outcome-refused : {e : Refusal} → o ≡ Outcome.Refused e → outcomeOf o a ≡ x → inl e ≡ x
-  outcome-refused p q = sym (ap (λ z. outcomeOf z a) p) ∙ q
-
-  pub outcome-accepted : o ≡ Outcome.Accepted → outcomeOf o a ≡ x → inr a ≡ x
-  outcome-accepted p q = sym (ap (λ z. outcomeOf z a) p) ∙ q
 
 -- ---- the run: 41 never
 module _ (es : List Event) (o : List ℕ) (start : Rows) (ran : Ran) (runs : RunsTo es o start ran) (few : start .len ≤ 256) (short : length o ≤ 256) where

@@ -1,3 +1,4 @@
 pub mod Leaving
 pub mod OneOrder
 pub mod EachOrder
+pub mod Shared

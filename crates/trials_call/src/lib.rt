@@ -2,3 +2,5 @@
 pub mod counting; // orders end to end
 pub mod trial; // one order
 pub mod trying; // the call
+
+pub use trying::try_orders;

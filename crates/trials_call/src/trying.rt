@@ -58,3 +58,67 @@ fn try_each(
         out[k] = byte;
     }
 }
+
+// The bytes of m orders, from the buffer's start. What they share is worked out once.
+fn try_all(t: Trace, start: Rows, orders: &[u8], m: usize, out: &mut [u8])
+    requires { ⌜ (t .len ≤ 256) × (start .len ≤ 256) × Held (eventsOf t) (rowsOf start) × (uneven (t .len) (length (now orders)) ≡ false) × (m ≡ orderCount (t .len) (length (now orders))) × (m ≤ length (now out)) ⌝ }
+    ensures { λ _. ⌜ now (out .exit) ≡ startingWith (orderBytes (eventsOf t) (tablesOf (rowsOf start)) (now (orders .entry))) (now (out .entry)) ⌝ }
+{
+    let n = t.len;
+    let earlier = happens_before::happens_before(t);
+    let slots = slots_plan::slots_of(t, start);
+    let masks = slots_plan::masks_of(t, slots);
+    let plans = slots_plan::plans_of(t, slots);
+    let priorities = slots_plan::priorities_of(slots);
+    let begun = slots_plan::start_of(slots, start);
+    let set = begun.set;
+    let codes = begun.codes;
+    try_each(
+        n,
+        &earlier,
+        &masks,
+        &plans,
+        &priorities,
+        set,
+        codes,
+        orders,
+        m,
+        out,
+    );
+}
+
+// 52, 53; then the bytes.
+fn try_on(t: Trace, start: Rows, orders: &[u8], out: &mut [u8]) -> TrialsAnswer
+    requires { ⌜ (t .len ≤ 256) × (start .len ≤ 256) × Held (eventsOf t) (rowsOf start) ⌝ }
+    ensures { λ r. ⌜ Leaves (triedFrom (eventsOf t) (tablesOf (rowsOf start)) (now (orders .entry)) (length (now (out .entry)))) r (now (out .entry)) (now (out .exit)) ⌝ }
+{
+    let n = t.len;
+    let len = orders.len();
+    if is_uneven(n, len) {
+        return TrialsAnswer::Refused(Refusal::OrdersUneven);
+    }
+    let m = order_count(n, len);
+    if out.len() < m {
+        return TrialsAnswer::Refused(Refusal::TrialsShort(m));
+    }
+    try_all(t, start, orders, m, out);
+    TrialsAnswer::Orders(m)
+}
+
+// Orders of a trace's events end to end, one byte for each event, from the tables of a text: a byte an order, from the buffer's start,
+// and how many there are. The bytes past them, or all after a refusal, stay as they were.
+pub fn try_orders(trace: &[u8], tables: &[u8], orders: &[u8], out: &mut [u8]) -> TrialsAnswer
+    ensures { λ r. ⌜ r ≡ trialsAnswer (tried (now (trace .entry)) (now (tables .entry)) (now (orders .entry)) (length (now (out .entry)))) ⌝ }
+    ensures { λ _. ⌜ now (out .exit) ≡ written (tried (now (trace .entry)) (now (tables .entry)) (now (orders .entry)) (length (now (out .entry)))) (now (out .entry)) ⌝ }
+{
+    let read = read_both(trace, tables);
+    let outcome = read.outcome;
+    match outcome {
+        Outcome::Refused(r) => TrialsAnswer::Refused(r),
+        Outcome::Accepted => {
+            let events = read.trace;
+            let start = read.rows;
+            try_on(events, start, orders, out)
+        }
+    }
+}

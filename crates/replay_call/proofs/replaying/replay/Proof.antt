@@ -8,7 +8,8 @@ use Rattle.trace_events.specs.Events.{eventsOf}
 use Rattle.rows.specs.Rows.{rowsOf}
 use Rattle.inputs.specs.Inputs.{readBoth}
 use Rattle.replay_call.specs.Types.{Event, Row}
-use Rattle.replay_call.proofs.Leaving.{outcome-refused, outcome-accepted, texts-refused, texts-accepted, start-sorted, called}
+use Rattle.inputs.proofs.Outcomes.{outcome-refused, outcome-accepted}
+use Rattle.replay_call.proofs.Leaving.{texts-refused, texts-accepted, start-sorted, called}
 use Rattle.replay_call.proofs.replaying.replay.Statement.{statement}
 use Rattle.replay_call.proofs.replaying.replay.Tie as tie
 

@@ -9,7 +9,8 @@ use Rattle.happens_before.specs.Inner.{bit}
 use Rattle.refusals.specs.Checks.{outcomeOf}
 use Rattle.order_check.specs.Schedule.{checkBy, checkOrder}
 use Rattle.order_check.proofs.ByRows.{check-rows, rows-inside}
-use Rattle.replay_call.proofs.Leaving.{outcome-refused, outcome-accepted, events-few, order-short, order-refused, order-accepted}
+use Rattle.inputs.proofs.Outcomes.{outcome-refused, outcome-accepted}
+use Rattle.replay_call.proofs.Leaving.{events-few, order-short, order-refused, order-accepted}
 use borrow.Author.Needs.{needs}
 use Rattle.replay_call.proofs.replaying.replay_order.Statement.{statement}
 use Rattle.replay_call.proofs.replaying.replay_order.Tie as tie

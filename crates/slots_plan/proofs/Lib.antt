@@ -1,0 +1,7 @@
+pub mod Turns
+pub mod Finding
+pub mod MaskLaws
+pub mod PlanLaws
+pub mod SlotLaws
+pub mod StartLaws
+pub mod Prepared

@@ -2,21 +2,7 @@
 // one for each event; left out, in the recorded order. Prints the end tables and then the answers, or what is refused.
 use call_answers::ReplayAnswer;
 use libc::STDERR_FILENO;
-use program_input::Input;
-ghost use Rattle.io.specs.Counts.{Counts};
-
-// Reads the file that an argument names.
-fn read_arg(i: usize, buf: &mut [u8]) -> Input
-    ensures { λ r. ⌜ Counts (r .len) (now (buf .exit)) ⌝ }
-{
-    let mut name = [0u8; 4096];
-    let n = os::arg(i, &mut name);
-    if os::errno() != 0 {
-        os::fail(b"argument");
-        return Input { ok: false, len: 0 };
-    }
-    program_input::read_file(&name[..n], buf)
-}
+use program_input::read_arg;
 
 // Both texts, or the refusal. The buffers hold the longest texts that there are: 512 lines of 115 bytes, and 256 of 28.
 fn print_replay<'a>(trace: &'a [u8], tables: &'a [u8], order: &[u8]) {

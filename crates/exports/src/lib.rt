@@ -3,19 +3,22 @@ use exports_values::Listed;
 use exports_values::Normalised;
 use exports_values::Paged;
 use exports_values::Replayed;
+use exports_values::Tried;
 use exports_values::list_as;
 use exports_values::normal_as;
 use exports_values::page_as;
 use exports_values::replay_as;
+use exports_values::trials_as;
 ghost use mathlib.Core.Path.{_≡_};
 ghost use lib.ListN.{length};
 ghost use Rattle.refusals.specs.Checks.{written};
-ghost use Rattle.exports_values.specs.Values.{listAs, normalAs, pageAs, replayAs};
+ghost use Rattle.exports_values.specs.Values.{listAs, normalAs, pageAs, replayAs, trialsAs};
 ghost use Rattle.list_call.specs.Races.{listRaces, listAnswer, listOut};
 ghost use Rattle.tables_normal.specs.Normal.{normalised, normalAnswer};
 ghost use Rattle.page_call.specs.Paged.{paged, pageAnswer};
 ghost use Rattle.replay_texts.specs.Writing.{replayAnswer, tablesOut, answersOut};
 ghost use Rattle.replay_call.specs.Replay.{replayed};
+ghost use Rattle.trials_call.specs.Tried.{tried, trialsAnswer};
 
 // The listed pairs of a trace, two bytes each, from the buffer's start. The bytes after them, or all after a refusal, stay as they
 // were.
@@ -64,4 +67,20 @@ pub extern "C" fn gellunka_replay<'a>(
 {
     let answer = replay_call::replay(trace, tables, order, out, answered);
     replay_as(trace, tables, answer)
+}
+
+// Orders of a trace's events end to end, one byte for each event, from the tables of a text: a byte an order, from the buffer's start.
+// The bytes after them, or all after a refusal, stay as they were.
+#[no_mangle]
+pub extern "C" fn gellunka_try_orders<'a>(
+    trace: &'a [u8],
+    tables: &'a [u8],
+    orders: &[u8],
+    out: &mut [u8],
+) -> Tried
+    ensures { λ r. ⌜ r ≡ trialsAs (now (trace .entry)) (now (tables .entry)) (trialsAnswer (tried (now (trace .entry)) (now (tables .entry)) (now (orders .entry)) (length (now (out .entry))))) ⌝ }
+    ensures { λ _. ⌜ now (out .exit) ≡ written (tried (now (trace .entry)) (now (tables .entry)) (now (orders .entry)) (length (now (out .entry)))) (now (out .entry)) ⌝ }
+{
+    let answer = trials_call::try_orders(trace, tables, orders, out);
+    trials_as(trace, tables, answer)
 }

@@ -1,0 +1,1 @@
+// Tried orders in document 01's words. Definitions and theorems only.

@@ -1,11 +1,14 @@
 -- The refusal that a call tells is the first of document 01's list that applies, of the checks that concern what the call is given.
 -- Assumes nothing.
 use mathlib.Core.Path.{_≡_, sym, _∙_}
+use mathlib.Core.Bool.{true, true≢false}
 use mathlib.Core.Logic.{_↔_, inl, inr}
 use mathlib.Core.List.{List, [], _∷_, _++_}
 use Prim.Native.Nat.{ℕ, _<_}
 use lib.Dec.{ltb}
+use lib.ListN.{length}
 use borrow.Author.Tests.{ltb-true, lt-ltb}
+use Rattle.basics.proofs.Booleans.{split}
 use Rattle.refusals.specs.Checks.{Checked, _▹_, refuseIf, refuseShort}
 use Rattle.refusals.proofs.Checks.{same-value}
 use Rattle.trace_text.specs.TraceText.{readTrace}
@@ -25,13 +28,17 @@ use Rattle.order_check.specs.Schedule.{checkOrder}
 use Rattle.order_rows.specs.Runs.{operationAt}
 use Rattle.replay_texts.specs.Writing.{Replayed}
 use Rattle.replay_call.specs.Replay.{entriesHeld, textsOf, replayed}
+use Rattle.order_trials.specs.Trials.{uneven, orderBytes}
+use Rattle.order_trials.proofs.Counting.{even-iff}
+use Rattle.trials_call.specs.Tried.{tried}
+use Rattle.trials_call.specs.Inner.{triedFrom}
 use Rattle.refusals_order.specs.Types.{Refusal, Event, Row}
 use Rattle.refusals_order.specs.Causes.{Cause, FirstOf, Of}
 use Rattle.refusals_order.specs.Traces.{traceCauses}
 use Rattle.refusals_order.specs.Tables.{tablesCauses}
 use Rattle.refusals_order.specs.Orders.{incompleteCause, earlyPutCause, orderCauses}
-use Rattle.refusals_order.specs.Calls.{shortCause, listCauses, pageCauses, normalCauses, OfBoth, heldCause, endShortCause, answersShortCause, replayCauses}
-use Rattle.refusals_order.proofs.Causes.{Tells, tells-same, then-tells, when-tells, short-tells, never-tells, of-said}
+use Rattle.refusals_order.specs.Calls.{shortCause, listCauses, pageCauses, normalCauses, OfBoth, heldCause, endShortCause, answersShortCause, replayCauses, Uneven, unevenCause, trialsShortCause, trialsCauses}
+use Rattle.refusals_order.proofs.Causes.{Same, Tells, tells-same, then-tells, when-tells, short-tells, never-tells, of-said}
 use Rattle.refusals_order.proofs.Traces.{trace-tells}
 use Rattle.refusals_order.proofs.Tables.{tables-tell}
 use Rattle.refusals_order.proofs.Orders.{order-tells}
@@ -41,13 +48,17 @@ module _ {A : Type 0} (x : Checked A) (Says : A → Type 0) (iff : (a : A) → (
   pub said-of : (c : A → Cause) (r : Refusal) → c a r ↔ Of Says c r
   said-of = of-said Says a (iff a .0 e) (λ b t. same-value (sym (iff b .1 t) ∙ e))
 
--- a check that follows an accepted text, of what the text says
+-- the last check: the room for what is written
+room-tells : {B : Type 0} (room : ℕ) (refusal : ℕ → Refusal) (text : List ℕ) (value : B) → Tells (refuseShort room text refusal ▹ λ _. inr value) (shortCause room refusal text ∷ [])
+room-tells room refusal text value = then-tells (refuseShort room text refusal) (λ _. inr value) (shortCause room refusal text ∷ []) [] (short-tells room text refusal) (λ _ f. never-tells value)
+
+-- that check after an accepted text, of what the text says
 then-short : {A B : Type 0} (x : Checked A) (Says : A → Type 0) → ((a : A) → (x ≡ inr a) ↔ Says a) → (cs : List Cause) → Tells x cs
     → (room : ℕ) (refusal : ℕ → Refusal) (text : A → List ℕ) (value : A → B) → Tells (x ▹ λ a. refuseShort room (text a) refusal ▹ λ _. inr (value a)) (cs ++ (Of Says (λ a. shortCause room refusal (text a)) ∷ []))
 then-short x Says iff cs t room refusal text value =
     then-tells x (λ a. refuseShort room (text a) refusal ▹ λ _. inr (value a)) cs (Of Says (λ a. shortCause room refusal (text a)) ∷ []) t
     (λ a e. tells-same (refuseShort room (text a) refusal ▹ λ _. inr (value a)) (shortCause room refusal (text a) ∷ [])
-    (then-tells (refuseShort room (text a) refusal) (λ _. inr (value a)) (shortCause room refusal (text a) ∷ []) [] (short-tells room (text a) refusal) (λ _ f. never-tells (value a)))
+    (room-tells room refusal (text a) (value a))
     (Of Says (λ b. shortCause room refusal (text b)) ∷ [])
     (said-of x Says iff a e (λ b. shortCause room refusal (text b)), tt))
 
@@ -65,6 +76,27 @@ page-refused-iff trace room = then-short (readTrace trace) (IsTrace trace) (trac
 pub normal-refused-iff : (tables : List ℕ) (room : ℕ) (r : Refusal) → (normalised tables room ≡ inl r) ↔ FirstOf (normalCauses tables room) r
 unfolding normalised normalCauses
 normal-refused-iff tables room = then-short (readTables tables) (IsTables tables) (tables-accepted-iff tables) (tablesCauses tables) (tables-tell tables) room Refusal.TablesShort normalText normalText
+
+-- ---- a trace and a table text
+module _ (trace tables : List ℕ) where
+  module _ (es : List Event) (e : readTrace trace ≡ inr es) where
+    by-trace : (c : List Event → Cause) (r : Refusal) → c es r ↔ Of (IsTrace trace) c r
+    by-trace = said-of (readTrace trace) (IsTrace trace) (trace-accepted-iff trace) es e
+
+    by-both : (rs : List Row) → readTables tables ≡ inr rs → (c : List Event → List Row → Cause) (r : Refusal) → c es rs r ↔ OfBoth trace tables c r
+    by-both rs f c r =
+        let inner = said-of (readTables tables) (IsTables tables) (tables-accepted-iff tables) rs f (c es) r in
+        let outer = by-trace (λ v. Of (IsTables tables) (c v)) r in
+        (λ h. outer .0 (inner .0 h), λ h. inner .1 (outer .1 h))
+
+  -- checks that follow both texts, of what they say
+  both-tell : {A : Type 0} (next : List Event → List Row → Checked A) (causes : List Event → List Row → List Cause) → ((es : List Event) (rs : List Row) → Tells (next es rs) (causes es rs))
+      → (rest : List Cause) → ((es : List Event) → readTrace trace ≡ inr es → (rs : List Row) → readTables tables ≡ inr rs → Same (causes es rs) rest)
+      → Tells (readTrace trace ▹ λ es. readTables tables ▹ λ rs. next es rs) (traceCauses trace ++ (tablesCauses tables ++ rest))
+  both-tell next causes tells rest same =
+      then-tells (readTrace trace) (λ es. readTables tables ▹ λ rs. next es rs) (traceCauses trace) (tablesCauses tables ++ rest) (trace-tells trace)
+      (λ es e. then-tells (readTables tables) (λ rs. next es rs) (tablesCauses tables) rest (tables-tell tables)
+      (λ rs f. tells-same (next es rs) (causes es rs) (tells es rs) rest (same es e rs f)))
 
 -- ---- replay
 module _ (trace tables o : List ℕ) (room room' : ℕ) where
@@ -95,28 +127,42 @@ module _ (trace tables o : List ℕ) (room room' : ℕ) where
         (when-tells (ltb 512 n) (512 < n) (ltb-true 512 n, lt-ltb 512 n) Refusal.TooManyEntries)
         (λ _ b. then-tells (refuseShort room (texts .tables) Refusal.TablesShort) tables32 (endShortCause o room es rs ∷ []) (answersShortCause o room' es rs ∷ [])
         (short-tells room (texts .tables) Refusal.TablesShort)
-        (λ _ c. then-tells (refuseShort room' (texts .answers) Refusal.AnswersShort) answers33 (answersShortCause o room' es rs ∷ []) []
-        (short-tells room' (texts .answers) Refusal.AnswersShort)
-        (λ _ d. never-tells texts))))
+        (λ _ c. room-tells room' Refusal.AnswersShort (texts .answers) texts)))
 
   -- THE refusal of a replay: the first of 1 to 8, 11 to 16, 21, 22, 41, 32, 33 that applies
   pub replay-refused-iff : (r : Refusal) → (replayed trace tables o room room' ≡ inl r) ↔ FirstOf (replayCauses trace tables o room room') r
   unfolding replayed replayCauses
   replay-refused-iff =
-      then-tells (readTrace trace) (λ es. readTables tables ▹ λ rs. follows es rs) (traceCauses trace) (tablesCauses tables ++ rest) (trace-tells trace)
-      (λ es e. then-tells (readTables tables) (λ rs. follows es rs) (tablesCauses tables) rest (tables-tell tables)
-      (λ rs f. tells-same (follows es rs) (causes es rs) (follows-tells es rs) rest
-      (by-trace es e (incompleteCause o), (by-trace es e (earlyPutCause o), (by-both es e rs f (heldCause o), (by-both es e rs f (endShortCause o room), (by-both es e rs f (answersShortCause o room'), tt)))))))
-    where
-      rest : List Cause
-      rest = Of (IsTrace trace) (incompleteCause o) ∷ Of (IsTrace trace) (earlyPutCause o) ∷ OfBoth trace tables (heldCause o) ∷ OfBoth trace tables (endShortCause o room) ∷ OfBoth trace tables (answersShortCause o room') ∷ []
+      both-tell trace tables follows causes follows-tells
+      (Of (IsTrace trace) (incompleteCause o) ∷ Of (IsTrace trace) (earlyPutCause o) ∷ OfBoth trace tables (heldCause o) ∷ OfBoth trace tables (endShortCause o room) ∷ OfBoth trace tables (answersShortCause o room') ∷ [])
+      (λ es e rs f. (
+        by-trace trace tables es e (incompleteCause o),
+        (
+          by-trace trace tables es e (earlyPutCause o),
+          (by-both trace tables es e rs f (heldCause o), (by-both trace tables es e rs f (endShortCause o room), (by-both trace tables es e rs f (answersShortCause o room'), tt))),
+        ),
+      ))
 
-      by-trace : (es : List Event) → readTrace trace ≡ inr es → (c : List Event → Cause) (r : Refusal) → c es r ↔ Of (IsTrace trace) c r
-      by-trace es e = said-of (readTrace trace) (IsTrace trace) (trace-accepted-iff trace) es e
+-- ---- many orders
+uneven-iff : (es : List Event) (os : List ℕ) → (uneven (length es) (length os) ≡ true) ↔ Uneven es os
+uneven-iff es os = (
+  λ u m e. true≢false (sym u ∙ even-iff (length es) (length os) .1 (m, e)),
+  λ h. split (uneven (length es) (length os)) (λ u. u) (λ z. let (m, e) = even-iff (length es) (length os) .0 z in absurd (h m e)),
+)
 
-      by-both : (es : List Event) → readTrace trace ≡ inr es → (rs : List Row) → readTables tables ≡ inr rs → (c : List Event → List Row → Cause) (r : Refusal)
-          → c es rs r ↔ OfBoth trace tables c r
-      by-both es e rs f c r =
-          let inner = said-of (readTables tables) (IsTables tables) (tables-accepted-iff tables) rs f (c es) r in
-          let outer = by-trace es e (λ v. Of (IsTables tables) (c v)) r in
-          (λ h. outer .0 (inner .0 h), λ h. inner .1 (outer .1 h))
+module _ (trace tables os : List ℕ) (room : ℕ) where
+  tried-tells : (es : List Event) (rs : List Row) → Tells (triedFrom es (tablesOf rs) os room) (unevenCause os es ∷ trialsShortCause os room es rs ∷ [])
+  tried-tells es rs =
+      let bytes = orderBytes es (tablesOf rs) os in
+      then-tells (refuseIf (uneven (length es) (length os)) Refusal.OrdersUneven) (λ _. refuseShort room bytes Refusal.TrialsShort ▹ λ _. inr bytes)
+      (unevenCause os es ∷ []) (trialsShortCause os room es rs ∷ [])
+      (when-tells (uneven (length es) (length os)) (Uneven es os) (uneven-iff es os) Refusal.OrdersUneven)
+      (λ _ a. room-tells room Refusal.TrialsShort bytes bytes)
+
+  -- THE refusal of the call that tries orders: the first of 1 to 8, 11 to 16, 52, 53 that applies
+  pub trials-refused-iff : (r : Refusal) → (tried trace tables os room ≡ inl r) ↔ FirstOf (trialsCauses trace tables os room) r
+  unfolding tried trialsCauses
+  trials-refused-iff =
+      both-tell trace tables (λ es rs. triedFrom es (tablesOf rs) os room) (λ es rs. unevenCause os es ∷ trialsShortCause os room es rs ∷ []) tried-tells
+      (Of (IsTrace trace) (unevenCause os) ∷ OfBoth trace tables (trialsShortCause os room) ∷ [])
+      (λ es e rs f. (by-trace trace tables es e (unevenCause os), (by-both trace tables es e rs f (trialsShortCause os room), tt)))

@@ -24,11 +24,14 @@ use Rattle.rows.specs.Rows.{tablesOf}
 use Rattle.order_check.specs.Schedule.{checkOrder}
 use Rattle.order_rows.specs.Runs.{operationAt}
 use Rattle.replay_call.specs.Replay.{entriesHeld, textsOf, replayed}
+use Rattle.order_trials.specs.Trials.{uneven, orderBytes}
+use Rattle.trials_call.specs.Tried.{tried, trialsAnswer}
+use Rattle.trials_call.specs.Inner.{triedFrom}
 use Rattle.refusals_order.specs.Types.{Refusal, Event, Row, ListAnswer}
-use Rattle.refusals_order.specs.Calls.{listCauses, pageCauses, normalCauses, replayCauses}
-use Rattle.refusals_order.specs.Demand1.{ListRefused, ListDone, PageRefused, PageDone, NormalRefused, NormalDone, ReplayRefused, ReplayDone, Demand1}
+use Rattle.refusals_order.specs.Calls.{listCauses, pageCauses, normalCauses, replayCauses, trialsCauses}
+use Rattle.refusals_order.specs.Demand1.{ListRefused, ListDone, PageRefused, PageDone, NormalRefused, NormalDone, ReplayRefused, ReplayDone, TrialsRefused, TrialsDone, Demand1}
 use Rattle.refusals_order.proofs.Causes.{handed-none}
-use Rattle.refusals_order.proofs.Calls.{follows, list-refused-iff, page-refused-iff, normal-refused-iff, replay-refused-iff}
+use Rattle.refusals_order.proofs.Calls.{follows, list-refused-iff, page-refused-iff, normal-refused-iff, replay-refused-iff, trials-refused-iff}
 
 -- ---- what an accepted input hands on
 module _ {A B : Type 0} (x : Checked A) (room : ℕ) (text : A → List ℕ) (refusal : ℕ → Refusal) (value : A → B) {b : B} where
@@ -49,6 +52,13 @@ normal-on : (tables : List ℕ) (room : ℕ) (t : List ℕ) → normalised table
 unfolding normalised
 normal-on tables room t h = fits-on (readTables tables) room normalText Refusal.TablesShort normalText h
 
+-- what follows both texts
+both-on : {A : Type 0} (trace tables : List ℕ) (next : List Event → List Row → Checked A) {x : A} → (readTrace trace ▹ λ es. readTables tables ▹ λ rs. next es rs) ≡ inr x
+    → (es : List Event) × (readTrace trace ≡ inr es) × ((rs : List Row) × (readTables tables ≡ inr rs) × (next es rs ≡ inr x))
+both-on trace tables next h =
+    let (es, e, f) = handed-on (readTrace trace) (λ es. readTables tables ▹ λ rs. next es rs) h in
+    (es, e, handed-on (readTables tables) (λ rs. next es rs) f)
+
 module _ (trace tables o : List ℕ) (room room' : ℕ) (x : Replayed) where
   follows-on : (es : List Event) (rs : List Row) → follows trace tables o room room' es rs ≡ inr x → textsOf es o (tablesOf rs) ≡ x
   follows-on es rs h =
@@ -66,9 +76,18 @@ module _ (trace tables o : List ℕ) (room room' : ℕ) (x : Replayed) where
       → (es : List Event) × (readTrace trace ≡ inr es) × ((rs : List Row) × (readTables tables ≡ inr rs) × (textsOf es o (tablesOf rs) ≡ x))
   unfolding replayed
   replayed-on h =
-      let (es, e, f) = handed-on (readTrace trace) (λ es. readTables tables ▹ λ rs. follows trace tables o room room' es rs) h in
-      let (rs, k, g) = handed-on (readTables tables) (λ rs. follows trace tables o room room' es rs) f in
+      let (es, e, (rs, k, g)) = both-on trace tables (follows trace tables o room room') h in
       (es, e, (rs, k, follows-on es rs g))
+
+module _ (trace tables os : List ℕ) (room : ℕ) (x : List ℕ) where
+  tried-on : tried trace tables os room ≡ inr x
+      → (es : List Event) × (readTrace trace ≡ inr es) × ((rs : List Row) × (readTables tables ≡ inr rs) × (orderBytes es (tablesOf rs) os ≡ x))
+  unfolding tried
+  tried-on h =
+      let (es, e, (rs, k, g)) = both-on trace tables (λ es rs. triedFrom es (tablesOf rs) os room) h in
+      let bytes = orderBytes es (tablesOf rs) os in
+      let (u, v, f) = fits-on (refuseIf (uneven (length es) (length os)) Refusal.OrdersUneven) room (λ _. bytes) Refusal.TrialsShort (λ _. bytes) g in
+      (es, e, (rs, k, f))
 
 -- ---- the calls
 module _ (trace : List ℕ) (room : ℕ) (es : List Event) (g : listRaces trace room ≡ inr (listingOf es)) where
@@ -172,5 +191,29 @@ replay-does trace tables o old old' = go (replayed trace tables o (length old) (
           bytes' = ap (λ y. written (answersOut y) old') g;
         })
 
+trials-does : (trace tables os old : List ℕ) → TrialsRefused trace tables os old ⊎ TrialsDone trace tables os old
+trials-does trace tables os old = go (tried trace tables os (length old)) refl
+  where
+    go : (y : Checked (List ℕ)) → tried trace tables os (length old) ≡ y → TrialsRefused trace tables os old ⊎ TrialsDone trace tables os old
+    go (inl r) e = inl (record {
+      refusal = r;
+      first = trials-refused-iff trace tables os (length old) r .0 e;
+      returned = ap trialsAnswer e;
+      unchanged = ap (λ y. written y old) e;
+    })
+    go (inr x) e =
+        let (es, h, (rs, k, f)) = tried-on trace tables os (length old) x e in
+        inr (record {
+          none = handed-none (tried trace tables os (length old)) (trialsCauses trace tables os (length old)) (trials-refused-iff trace tables os (length old)) .0 (x, e);
+          events = es;
+          rows = rs;
+          accepted = trace-accepted-iff trace es .0 h;
+          held = tables-accepted-iff tables rs .0 k;
+          bytes = x;
+          bytes-are = sym f;
+          returned = ap trialsAnswer e;
+          buffer = ap (λ y. written y old) e;
+        })
+
 pub demand-1 : Demand1
-demand-1 = record { list = list-does; page = page-does; normalise = normal-does; replay = replay-does }
+demand-1 = record { list = list-does; page = page-does; normalise = normal-does; replay = replay-does; trials = trials-does }

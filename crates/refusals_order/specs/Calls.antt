@@ -1,6 +1,7 @@
 -- Document 01, "Refusal table", the order of checks: each call makes those checks that concern what it is given.
 use mathlib.Core.List.{List, [], _∷_, _++_}
-use Prim.Native.Nat.{ℕ, _<_}
+use mathlib.Core.Path.{_≡_}
+use Prim.Native.Nat.{ℕ, _*_, _<_}
 use lib.ListN.{length}
 use Rattle.trace_text.specs.Meaning.{IsTrace}
 use Rattle.tables_text.specs.Meaning.{IsTables}
@@ -10,6 +11,7 @@ use Rattle.list_pairs.specs.List.{listOf, pairBytes}
 use Rattle.page_text.specs.Page.{pageText}
 use Rattle.order_meaning.specs.Tables.{endTables}
 use Rattle.order_rows.specs.Runs.{operationAt}
+use Rattle.order_trials.specs.Trials.{orderBytes}
 use Rattle.replay_call.specs.Replay.{entriesHeld, answerLines}
 use Rattle.refusals_order.specs.Types.{Refusal, Event, Row}
 use Rattle.refusals_order.specs.Causes.{Cause, When, Of}
@@ -17,7 +19,7 @@ use Rattle.refusals_order.specs.Traces.{traceCauses}
 use Rattle.refusals_order.specs.Tables.{tablesCauses}
 use Rattle.refusals_order.specs.Orders.{incompleteCause, earlyPutCause}
 
--- 31, 32, 33, 51: a buffer is too short for a text; the bytes needed
+-- 31, 32, 33, 51, 53: a buffer is too short for a text; the bytes needed
 abbrev pub shortCause : ℕ → (ℕ → Refusal) → List ℕ → Cause
 shortCause room refusal text = When (room < length text) (refusal (length text))
 
@@ -33,11 +35,11 @@ pageCauses trace room = traceCauses trace ++ (Of (IsTrace trace) (λ es. shortCa
 unfoldable pub normalCauses : List ℕ → ℕ → List Cause
 normalCauses tables room = tablesCauses tables ++ (Of (IsTables tables) (λ rs. shortCause room Refusal.TablesShort (normalText rs)) ∷ [])
 
--- ---- replay
 -- a cause that speaks of what both texts say
 abbrev pub OfBoth : List ℕ → List ℕ → (List Event → List Row → Cause) → Cause
 OfBoth trace tables c = Of (IsTrace trace) (λ es. Of (IsTables tables) (λ rs. c es rs))
 
+-- ---- replay
 -- 41: over 512 entries held
 abbrev pub heldCause : List ℕ → List Event → List Row → Cause
 heldCause o es rs = When (512 < entriesHeld (endTables (operationAt es) o (tablesOf rs))) Refusal.TooManyEntries
@@ -60,4 +62,25 @@ replayCauses trace tables o room room' =
     ∷ OfBoth trace tables (heldCause o)
     ∷ OfBoth trace tables (endShortCause o room)
     ∷ OfBoth trace tables (answersShortCause o room')
+    ∷ []))
+
+-- ---- many orders
+-- 52: the length of the orders is no multiple of the number of events; of no events only 0 is one
+abbrev pub Uneven : List Event → List ℕ → Type 0
+Uneven es os = (m : ℕ) → length os ≡ m * length es → ⊥
+
+abbrev pub unevenCause : List ℕ → List Event → Cause
+unevenCause os es = When (Uneven es os) Refusal.OrdersUneven
+
+-- 53: a byte an order
+abbrev pub trialsShortCause : List ℕ → ℕ → List Event → List Row → Cause
+trialsShortCause os room es rs = shortCause room Refusal.TrialsShort (orderBytes es (tablesOf rs) os)
+
+-- 1 to 8; 11 to 16; 52; 53
+unfoldable pub trialsCauses : List ℕ → List ℕ → List ℕ → ℕ → List Cause
+trialsCauses trace tables os room =
+    traceCauses trace
+    ++ (tablesCauses tables
+    ++ (Of (IsTrace trace) (unevenCause os)
+    ∷ OfBoth trace tables (trialsShortCause os room)
     ∷ []))

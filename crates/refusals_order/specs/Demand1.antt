@@ -20,9 +20,11 @@ use Rattle.order_meaning.specs.Tables.{endTables}
 use Rattle.order_rows.specs.Runs.{operationAt}
 use Rattle.replay_texts.specs.Writing.{replayAnswer, tablesOut, answersOut}
 use Rattle.replay_call.specs.Replay.{answerLines, replayed}
-use Rattle.refusals_order.specs.Types.{Refusal, Event, Row, ListAnswer, NormalAnswer, PageAnswer, ReplayAnswer}
+use Rattle.order_trials.specs.Trials.{orderBytes}
+use Rattle.trials_call.specs.Tried.{tried, trialsAnswer}
+use Rattle.refusals_order.specs.Types.{Refusal, Event, Row, ListAnswer, NormalAnswer, PageAnswer, ReplayAnswer, TrialsAnswer}
 use Rattle.refusals_order.specs.Causes.{FirstOf, NoneOf}
-use Rattle.refusals_order.specs.Calls.{listCauses, pageCauses, normalCauses, replayCauses}
+use Rattle.refusals_order.specs.Calls.{listCauses, pageCauses, normalCauses, replayCauses, trialsCauses}
 
 -- ---- the list call on a trace and a buffer
 module _ (trace old : List ℕ) where
@@ -93,8 +95,29 @@ module _ (trace tables o old old' : List ℕ) where
     pub bytes : written (tablesOut (replayed trace tables o (length old) (length old'))) old ≡ startingWith ends old
     pub bytes' : written (answersOut (replayed trace tables o (length old) (length old'))) old' ≡ startingWith lines old'
 
+-- ---- many orders, end to end, on a trace, a table text and a buffer
+module _ (trace tables os old : List ℕ) where
+  pub record TrialsRefused : Type 0 where
+    pub refusal : Refusal
+    pub first : FirstOf (trialsCauses trace tables os (length old)) refusal
+    pub returned : trialsAnswer (tried trace tables os (length old)) ≡ TrialsAnswer.Refused refusal
+    pub unchanged : written (tried trace tables os (length old)) old ≡ old
+
+  pub record TrialsDone : Type 0 where
+    pub none : NoneOf (trialsCauses trace tables os (length old))
+    pub events : List Event
+    pub rows : List Row
+    pub accepted : IsTrace trace events
+    pub held : IsTables tables rows
+    -- a byte an order
+    pub bytes : List ℕ
+    pub bytes-are : bytes ≡ orderBytes events (tablesOf rows) os
+    pub returned : trialsAnswer (tried trace tables os (length old)) ≡ TrialsAnswer.Orders (length bytes)
+    pub buffer : written (tried trace tables os (length old)) old ≡ startingWith bytes old
+
 pub record Demand1 : Type 0 where
   pub list : (trace old : List ℕ) → ListRefused trace old ⊎ ListDone trace old
   pub page : (trace old : List ℕ) → PageRefused trace old ⊎ PageDone trace old
   pub normalise : (tables old : List ℕ) → NormalRefused tables old ⊎ NormalDone tables old
   pub replay : (trace tables o old old' : List ℕ) → ReplayRefused trace tables o old old' ⊎ ReplayDone trace tables o old old'
+  pub trials : (trace tables os old : List ℕ) → TrialsRefused trace tables os old ⊎ TrialsDone trace tables os old

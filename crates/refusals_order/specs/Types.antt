@@ -10,3 +10,4 @@ pub use Rattle.call_answers.specs.declared.list.ListAnswer.{ListAnswer}
 pub use Rattle.call_answers.specs.declared.normal.NormalAnswer.{NormalAnswer}
 pub use Rattle.call_answers.specs.declared.page.PageAnswer.{PageAnswer}
 pub use Rattle.call_answers.specs.declared.replay.ReplayAnswer.{ReplayAnswer}
+pub use Rattle.call_answers.specs.declared.trials.TrialsAnswer.{TrialsAnswer}

@@ -17,13 +17,14 @@ ghost use Rattle.basics.specs.Text.{startingWith};
 ghost use Rattle.refusals.specs.Checks.{written};
 ghost use Rattle.trace_events.specs.Events.{eventsOf};
 ghost use Rattle.rows.specs.Rows.{rowsOf, tablesOf};
+ghost use Rattle.order_meaning.specs.Orders.{from};
 ghost use Rattle.order_trials.specs.Trials.{orderCount, uneven, orderBytes};
 ghost use Rattle.order_trials.specs.Inner.{Held};
 ghost use Rattle.trials_call.specs.Tried.{tried, trialsAnswer};
 ghost use Rattle.trials_call.specs.Types.{Event, Row};
 ghost use Rattle.trials_call.specs.Inner.{triedFrom, Leaves, Sound, From};
 
-// The bytes of m orders, from the buffer's start, by what was worked out once.
+// The bytes of m orders, from the buffer's start, by what was worked out once, and the recorded order.
 fn try_each(
     n: usize,
     earlier: &[[u64; 4]; 256],
@@ -32,15 +33,15 @@ fn try_each(
     priorities: &[u16; 512],
     set: [u64; 8],
     codes: [u32; 512],
+    recorded: &[u8],
     orders: &[u8],
     m: usize,
     out: &mut [u8],
 )
-    requires { ⌜ Sound n (now earlier) (now plans) codes × (uneven n (length (now orders)) ≡ false) × (m ≡ orderCount n (length (now orders))) × (m ≤ length (now out)) ⌝ }
+    requires { ⌜ Sound n (now earlier) (now plans) codes × (now recorded ≡ from 0 n) × (uneven n (length (now orders)) ≡ false) × (m ≡ orderCount n (length (now orders))) × (m ≤ length (now out)) ⌝ }
     ensures { λ _. ⌜ ((es : List Event) (rs : List Row) → From es rs n (now (earlier .entry)) (now (masks .entry)) (now (plans .entry)) (now (priorities .entry)) set codes → now (out .exit) ≡ startingWith (orderBytes es (tablesOf rs) (now (orders .entry))) (now (out .entry))) ⌝ }
 {
-    let bytes = order_check::recorded_order();
-    let recorded = slots_run::run(masks, plans, priorities, set, codes, &bytes[..n]);
+    let end = slots_run::run(masks, plans, priorities, set, codes, recorded);
     for k in 0..m {
         let from = k * n;
         let to = from + n;
@@ -52,7 +53,7 @@ fn try_each(
             priorities,
             set,
             codes,
-            recorded,
+            end,
             &orders[from..to],
         );
         out[k] = byte;
@@ -73,6 +74,7 @@ fn try_all(t: Trace, start: Rows, orders: &[u8], m: usize, out: &mut [u8])
     let begun = slots_plan::start_of(slots, start);
     let set = begun.set;
     let codes = begun.codes;
+    let recorded = order_check::recorded_order();
     try_each(
         n,
         &earlier,
@@ -81,6 +83,7 @@ fn try_all(t: Trace, start: Rows, orders: &[u8], m: usize, out: &mut [u8])
         &priorities,
         set,
         codes,
+        &recorded[..n],
         orders,
         m,
         out,

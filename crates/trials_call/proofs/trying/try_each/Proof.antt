@@ -4,12 +4,10 @@ use native.Mathlib.Omega.{arith}
 use mathlib.Core.Path.{_≡_, refl, sym, ap, _∙_}
 use mathlib.Core.List.{List}
 use lib.ListN.{length, length-set}
-use lib.Seq.{length-take-le}
 use Rattle.order_meaning.specs.Orders.{from}
 use borrow.Author.Needs.{needs}
 use denote.Ref.{now}
 use Rattle.rows.specs.Rows.{tablesOf}
-use Rattle.order_check.proofs.RecordedBytes.{recorded-prefix}
 use Rattle.order_trials.specs.Trials.{orderAt, orderByte}
 use Rattle.order_trials.proofs.Counting.{order-ends}
 use Rattle.trials_call.specs.Types.{Event, Row}
@@ -19,16 +17,16 @@ use Rattle.trials_call.proofs.trying.try_each.Statement.{statement}
 use Rattle.trials_call.proofs.trying.try_each.Tie as tie
 
 abbrev Inv-loop : tie.InvT-loop
-Inv-loop n earlier masks plans priorities set codes orders m out₀ recorded k₀ out k =
+Inv-loop n earlier masks plans priorities set codes recorded orders m out₀ end k₀ out k =
     (k ≤ m) × (length out ≡ length out₀)
-    × ((es : List Event) (rs : List Row) → Ready es rs n earlier masks plans priorities set codes recorded → out ≡ filled (λ j. orderByte es (tablesOf rs) (orderAt n orders j)) out₀ k)
+    × ((es : List Event) (rs : List Row) → Ready es rs n earlier masks plans priorities set codes end → out ≡ filled (λ j. orderByte es (tablesOf rs) (orderAt n orders j)) out₀ k)
 
 abbrev μ-loop : tie.MeasureT-loop
-μ-loop n earlier masks plans priorities set codes orders m out₀ recorded k₀ out k = m - k
+μ-loop n earlier masks plans priorities set codes recorded orders m out₀ end k₀ out k = m - k
 
 -- the start, from a turn of the loop
 abbrev entered : tie.In-loop Inv-loop μ-loop → tie.Start Inv-loop μ-loop
-entered a = a .before .before .before .before .before .before .before
+entered a = a .before .before .before .before .before .before
 
 -- the bytes have a length that fits
 fits : (a : tie.In-loop Inv-loop μ-loop) → length (now (entered a .args .orders)) < 2 ^ 64
@@ -38,13 +36,7 @@ fits a = search needs
 ends : (a : tie.In-loop Inv-loop μ-loop) → a .before .loop .k * entered a .args .n + entered a .args .n ≤ length (now (entered a .args .orders))
 ends a =
     let s = entered a in
-    order-ends (s .args .n) (now (s .args .orders)) (s .pre .1) (a .before .loop .k) (omega (arith, a .loop-test .taken, s .pre .2))
-
-array-share-prefix-bytes : tie.Need-array-share-prefix-bytes Inv-loop μ-loop
-array-share-prefix-bytes c = omega (arith, c .before .before .before .pre .0 .few, c .recorded-order .ensures .0)
-
-slice-aggregate-run : tie.Need-slice-aggregate-run Inv-loop μ-loop
-slice-aggregate-run c = sym (length-take-le _ _ (array-share-prefix-bytes (c .before)))
+    order-ends (s .args .n) (now (s .args .orders)) (s .pre .2) (a .before .loop .k) (omega (arith, a .loop-test .taken, s .pre .3))
 
 loop-holds : tie.Need-loop-holds Inv-loop μ-loop
 loop-holds c = (omega arith, refl, λ es rs ready. refl)
@@ -67,7 +59,7 @@ part-trial-end c = ends c
 slice-write-out : tie.Need-slice-write-out Inv-loop μ-loop
 slice-write-out c =
     let a = c .before .before in
-    omega (arith, a .loop-test .taken, a .before .loop .inv .1, entered a .pre .3)
+    omega (arith, a .loop-test .taken, a .before .loop .inv .1, entered a .pre .4)
 
 loop-again : tie.Need-loop-again Inv-loop μ-loop
 loop-again c =
@@ -87,13 +79,10 @@ returns : tie.Need-returns Inv-loop μ-loop
 returns c =
     let l = c .before .loop in
     let at-run = c .before .before in
-    let at-bytes = at-run .before .before in
-    let s = at-bytes .before .before .before in
-    let made = at-bytes .recorded-order .ensures in
+    let s = at-run .before .before .before .before in
     λ es rs f.
-    let same = recorded-prefix (at-bytes .recorded-order .result) (made .0) (made .1) (s .args .n) (s .pre .0 .few) ∙ ap (from 0) (f .count) in
-    all-filled es (tablesOf rs) (now (s .args .orders)) (now (s .args .out)) (f .count) (s .pre .2) (l .k) (omega (arith, c .loop-test .left, l .inv .0))
-    (l .inv .2 es rs (recorded-ends es rs _ _ _ _ _ _ _ _ f same (at-run .run .ensures .1 es (f .slots) (f .steps) (f .inside))))
+    all-filled es (tablesOf rs) (now (s .args .orders)) (now (s .args .out)) (f .count) (s .pre .3) (l .k) (omega (arith, c .loop-test .left, l .inv .0))
+    (l .inv .2 es rs (recorded-ends es rs _ _ _ _ _ _ _ _ f (s .pre .1 ∙ ap (from 0) (f .count)) (at-run .run .ensures .1 es (f .slots) (f .steps) (f .inside))))
 
 pub try-each-spec : {M : Type 1} → statement M
 try-each-spec =
@@ -101,9 +90,6 @@ try-each-spec =
     (tie.spec
     Inv-loop
     μ-loop (λ c κs. search needs)
-    array-share-prefix-bytes
-    slice-aggregate-run
-    (λ c κs. search needs)
     loop-holds
     mul-from
     add-to

@@ -5,14 +5,11 @@ use native.Mathlib.Decide.{decLt}
 use native.Mathlib.Omega.{arith}
 use mathlib.Core.Path.{_≡_, refl, sym, ap, _∙_}
 use mathlib.Core.List.{List}
-use mathlib.Core.Bool.{Bool, true, false, not, true≢false}
-use lib.Dec.{eqb}
+use mathlib.Core.Bool.{true, false, not, true≢false}
 use lib.ListN.{getD}
 use lib.Pow.{shr-le}
 use lib.Count.{trailingZeros, under}
 use borrow.Author.Tests.{eq-eqb, ne-eqb}
-use Rattle.basics.specs.Searches.{anyBelow}
-use Rattle.basics.proofs.Searches.{any-at, any-none}
 use Rattle.bit_sets.specs.Inner.{wordBit, member, NextBit, NextFrom}
 use Rattle.bit_sets.proofs.BitLaws.{bit-first, bit-half, bit-down, bit-zero, bit-past}
 use Rattle.bit_sets.proofs.Members.{member-in}
@@ -98,14 +95,3 @@ module _ (words : List ℕ) (from i r : ℕ) (p : Passed words from i) (l : i < 
 
 pub none-left : (words : List ℕ) (from i : ℕ) → from ≤ 512 → Passed words from i → 512 ≤ i → NextFrom words from 512
 none-left words from i l p h = record { after = l; inside = omega arith; here = λ g. absurd (omega arith); skipped = λ k s g. p .clear k s (omega arith) }
-
--- ---- no member at all
-none-found : (p : ℕ → Bool) (n r : ℕ) → (r < n → p r ≡ true) → ((k : ℕ) → k < r → p k ≡ false) → r ≤ n → eqb r n ≡ not (anyBelow p n)
-none-found p n r h s l =
-    elim (decLt r n) [
-      | yes e ↦ ne-eqb r n (λ f. omega arith) ∙ sym (ap not (any-at p n r e (h e)))
-      | no e ↦ eq-eqb r n (omega arith) ∙ ap not (any-none p n (λ k g. s k (omega arith)))
-    ]
-
-pub empty-test : (words : List ℕ) (r : ℕ) → NextFrom words 0 r → eqb r 512 ≡ not (anyBelow (member words) 512)
-empty-test words r p = none-found (member words) 512 r (p .here) (λ k l. p .skipped k (omega arith) l) (p .inside)

@@ -2,7 +2,6 @@
 mod search;
 mod sets;
 
-pub use search::is_empty;
 pub use search::next;
 pub use sets::common;
 pub use sets::none;

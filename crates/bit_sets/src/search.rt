@@ -1,9 +1,6 @@
 // The lowest member from a number on: of one word, and of a set.
-ghost use mathlib.Core.Path.{_≡_};
-ghost use mathlib.Core.Bool.{not};
 ghost use Prim.Native.Nat.{_≤_, _<_};
-ghost use Rattle.basics.specs.Searches.{anyBelow};
-ghost use Rattle.bit_sets.specs.Inner.{member, NextBit, NextFrom};
+ghost use Rattle.bit_sets.specs.Inner.{NextBit, NextFrom};
 
 // 64 where there is none.
 fn next_bit(word: u64, from: usize) -> usize
@@ -31,10 +28,4 @@ pub fn next(set: [u64; 8], from: usize) -> usize
         i = (i / 64 + 1) * 64;
     }
     512
-}
-
-pub fn is_empty(set: [u64; 8]) -> bool
-    ensures { λ r. ⌜ r ≡ not (anyBelow (member set) 512) ⌝ }
-{
-    next(set, 0) == 512
 }

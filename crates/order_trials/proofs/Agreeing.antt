@@ -1,6 +1,6 @@
 -- The tests of two orders are equality: of tables (`same-table-iff`), of answers (`same-answer-iff`), and so of what two orders leave and
 -- answer (`agreeing-iff`). Assumes nothing.
-use mathlib.Core.Path.{_≡_, refl, sym, ap, ap₂, _∙_}
+use mathlib.Core.Path.{_≡_, refl, ap, ap₂}
 use mathlib.Core.Bool.{Bool, true, false, _&&_, false≢true}
 use mathlib.Core.Logic.{_↔_}
 use mathlib.Core.List.{List, [], _∷_}
@@ -19,7 +19,7 @@ use Rattle.flow_table.specs.FlowTable.{Table}
 use Rattle.flow_table.specs.Switches.{Tables}
 use Rattle.order_meaning.specs.Tables.{endTables, answers}
 use Rattle.order_rows.specs.Runs.{operationAt}
-use Rattle.order_trials.specs.Types.{Entry, Answer, Event}
+use Rattle.order_trials.specs.Types.{Answer, Event}
 use Rattle.order_trials.specs.Same.{sameTable, answerNumbers, sameNumbers, sameAnswer, sameGiven, agreeing}
 
 -- ---- tables

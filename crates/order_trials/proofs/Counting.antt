@@ -1,7 +1,7 @@
 -- Orders end to end: a length is even where it is a multiple of the number of events (`even-iff`); then the orders, each of that many
 -- bytes, joined are the bytes again (`orders-joined`), and there is a byte for each (`bytes-length`, `byte-at`). Assumes nothing.
 use mathlib.Core.Path.{_≡_, refl, sym, ap, _∙_}
-use mathlib.Core.Bool.{true, false, not}
+use mathlib.Core.Bool.{false, not}
 use mathlib.Core.Logic.{_↔_}
 use mathlib.Core.List.{List, [], _∷_, _++_}
 use Prim.Native.Nat.{ℕ, zero, suc, _+_, _*_, _/_, _≤_, _<_}

@@ -12,7 +12,7 @@ use Rattle.flow_table.specs.FlowTable.{Table}
 use Rattle.flow_table.specs.Switches.{Tables}
 use Rattle.order_meaning.specs.Tables.{endTables, answers}
 use Rattle.order_rows.specs.Runs.{operationAt}
-use Rattle.order_trials.specs.Types.{Entry, Answer, Event}
+use Rattle.order_trials.specs.Types.{Answer, Event}
 
 -- the same entries, in table order
 abbrev pub sameTable : Table → Table → Bool

@@ -1,5 +1,5 @@
 -- The bytes of the orders, one after the other. Assumes nothing.
-use mathlib.Core.Path.{_≡_, refl, sym, ap, _∙_, subst}
+use mathlib.Core.Path.{_≡_, sym, ap, _∙_, subst}
 use mathlib.Core.List.{List, [], _∷_, _++_, append-assoc}
 use Prim.Native.Nat.{ℕ, suc, _+_, _-_, _*_, _<_}
 use native.Mathlib.Numerals.{add-one}
@@ -9,7 +9,6 @@ use lib.Seq.{set-at, drop-cons}
 use Rattle.basics.specs.Searches.{gather}
 use Rattle.basics.specs.Text.{startingWith}
 use Rattle.flow_table.specs.Switches.{Tables}
-use Rattle.rows.specs.Rows.{tablesOf}
 use Rattle.order_rows.specs.Runs.{recorded}
 use Rattle.order_trials.specs.Trials.{orderCount, orderAt, orderByte, orderBytes}
 use Rattle.order_trials.proofs.Counting.{singles-length, bytes-length}

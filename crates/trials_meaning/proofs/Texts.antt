@@ -5,7 +5,7 @@ use mathlib.Core.Bool.{Bool, true, false, not}
 use mathlib.Core.Logic.{_↔_, _⊎_, inl, inr, ⊎-elim}
 use mathlib.Core.List.{List, [], _∷_}
 use mathlib.Core.Option.{Option, none, some}
-use Prim.Native.Nat.{ℕ, _<_}
+use Prim.Native.Nat.{ℕ}
 use native.Mathlib.Decide.{decLt}
 use native.Mathlib.Omega.{arith}
 use lib.Dec.{eqb, ltb}
@@ -28,7 +28,6 @@ use Rattle.tables_normal.proofs.OfTables.{accepted-beyond}
 use Rattle.order_check.specs.Schedule.{complete, firstEarly, checkOrder}
 use Rattle.order_check.proofs.Accepted.{order-accepted-iff}
 use Rattle.order_rows.specs.Runs.{operationAt}
-use Rattle.order_rows.specs.Inner.{runRows}
 use Rattle.order_rows.proofs.EndTables.{run-tables}
 use Rattle.order_rows.proofs.Answering.{absent}
 use Rattle.order_trials.specs.Same.{agreeing}
@@ -36,7 +35,6 @@ use Rattle.order_trials.specs.Inner.{Held}
 use Rattle.order_trials.proofs.Agreeing.{agreeing-iff}
 use Rattle.order_trials.proofs.OnRows.{rows-agree-iff}
 use Rattle.replay_texts.specs.Writing.{Replayed}
-use Rattle.replay_texts.specs.Inner.{fittingBoth}
 use Rattle.replay_call.specs.Replay.{textsOf, replayed}
 use Rattle.replay_call.proofs.Theorems.{only-rooms}
 use Rattle.replay_agreement.proofs.TextsTell.{texts-tell}

@@ -1,7 +1,6 @@
 -- The invariant: no member from the start on before i.
 use borrow.Author.Needs.{needs}
 use Prim.Native.Nat.{_-_}
-use native.Mathlib.Omega.{arith}
 use Rattle.bit_sets.proofs.NextLaws.{Passed, passed-none, passed-word, found, none-left}
 use Rattle.bit_sets.proofs.search.next.Statement.{statement}
 use Rattle.bit_sets.proofs.search.next.Tie as tie

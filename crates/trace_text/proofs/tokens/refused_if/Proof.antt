@@ -1,4 +1,3 @@
-use borrow.Author.Needs.{needs}
 use Rattle.trace_text.proofs.tokens.refused_if.Statement.{statement}
 use Rattle.trace_text.proofs.tokens.refused_if.Tie as tie
 

@@ -1,7 +1,7 @@
 -- The invariant: the bytes of the orders before k are written, the others are as they were.
 use Prim.Native.Nat.{_+_, _-_, _*_, _^_, _≤_, _<_}
 use native.Mathlib.Omega.{arith}
-use mathlib.Core.Path.{_≡_, refl, sym, ap, _∙_}
+use mathlib.Core.Path.{_≡_, refl, ap, _∙_}
 use mathlib.Core.List.{List}
 use lib.ListN.{length, length-set}
 use Rattle.order_meaning.specs.Orders.{from}

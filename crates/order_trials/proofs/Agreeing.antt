@@ -1,26 +1,24 @@
--- The tests of two orders are equality: of tables (`same-table-iff`), of answers (`same-answer-iff`), and so of what two orders leave and
+-- The tests of two orders are equality: of tables (`same-table-iff`), of answers, and so of what two orders leave and
 -- answer (`agreeing-iff`). Assumes nothing.
-use mathlib.Core.Path.{_≡_, refl, ap, ap₂}
+use mathlib.Core.Path.{_≡_, refl, ap}
 use mathlib.Core.Bool.{Bool, true, false, _&&_, false≢true}
 use mathlib.Core.Logic.{_↔_}
 use mathlib.Core.List.{List, [], _∷_}
 use mathlib.Core.Option.{Option, none, some}
 use Prim.Native.Nat.{ℕ, _<_}
-use native.Mathlib.Omega.{arith}
-use lib.Dec.{eqb}
-use lib.ListN.{length, getD}
-use borrow.Author.Tests.{eqb-true, eq-eqb}
-use Rattle.basics.specs.Searches.{size, allBelow}
+use lib.ListN.{length}
+use Rattle.basics.specs.Searches.{allBelow}
 use Rattle.basics.proofs.Booleans.{and-intro, and-left, and-right}
 use Rattle.basics.proofs.Searches.{all-at, all-of}
-use Rattle.flow.specs.Entries.{actionCode, sameKey, sameAction}
+use Rattle.flow.specs.Entries.{sameKey, sameAction}
 use Rattle.flow.proofs.Entries.{same-iff, action-iff}
 use Rattle.flow_table.specs.FlowTable.{Table}
 use Rattle.flow_table.specs.Switches.{Tables}
 use Rattle.order_meaning.specs.Tables.{endTables, answers}
 use Rattle.order_rows.specs.Runs.{operationAt}
 use Rattle.order_trials.specs.Types.{Answer, Event}
-use Rattle.order_trials.specs.Same.{sameTable, answerNumbers, sameNumbers, sameAnswer, sameGiven, agreeing}
+use Rattle.order_trials.specs.Same.{sameTable, sameGiven, agreeing}
+use Rattle.order_trials.proofs.SameAnswers.{same-answer-iff}
 
 -- ---- tables
 table-self : (t : Table) → sameTable t t ≡ true
@@ -42,48 +40,6 @@ pub same-table-iff : (t u : Table) → (sameTable t u ≡ true) ↔ (t ≡ u)
 same-table-iff t u = (table-eq t u, λ e. rw e (table-self u))
 
 -- ---- answers
-numbers-self : (xs : List ℕ) → sameNumbers xs xs ≡ true
-numbers-self [] = refl
-numbers-self (x ∷ xs) = and-intro (eq-eqb x x refl) (numbers-self xs)
-
-numbers-eq : (xs ys : List ℕ) → sameNumbers xs ys ≡ true → xs ≡ ys
-numbers-eq [] [] h = refl
-numbers-eq [] (y ∷ ys) h = absurd (false≢true h)
-numbers-eq (x ∷ xs) [] h = absurd (false≢true h)
-numbers-eq (x ∷ xs) (y ∷ ys) h = ap₂ {C = List ℕ} _∷_ (eqb-true x y (and-left _ (sameNumbers xs ys) h)) (numbers-eq xs ys (and-right (eqb x y) _ h))
-
-done-eq : (b c : Bool) → size b ≡ size c → Answer.Done b ≡ Answer.Done c
-done-eq true true e = refl
-done-eq true false e = absurd (omega arith)
-done-eq false true e = absurd (omega arith)
-done-eq false false e = refl
-
--- the numbers of an answer are those of no other
-told : (a b : Answer) → answerNumbers a ≡ answerNumbers b → a ≡ b
-unfolding sameAction
-told Answer.Silent Answer.Silent e = refl
-told Answer.Miss Answer.Miss e = refl
-told (Answer.Done b) (Answer.Done c) e = done-eq b c (ap (λ l. getD l 0 0) e)
-told (Answer.Hit p n a) (Answer.Hit q m b) e =
-    let actions = action-iff a b .0 (eq-eqb (actionCode a) (actionCode b) (ap (λ l. getD l 2 0) e)) in
-    λ i. Answer.Hit (ap (λ l. getD l 0 0) e i) (ap (λ l. getD l 1 0) e i) (actions i)
-told Answer.Silent Answer.Miss e = absurd (omega (arith, ap length e))
-told Answer.Silent (Answer.Done c) e = absurd (omega (arith, ap length e))
-told Answer.Silent (Answer.Hit q m b) e = absurd (omega (arith, ap length e))
-told Answer.Miss Answer.Silent e = absurd (omega (arith, ap length e))
-told Answer.Miss (Answer.Done c) e = absurd (omega (arith, ap length e))
-told Answer.Miss (Answer.Hit q m b) e = absurd (omega (arith, ap length e))
-told (Answer.Done b) Answer.Silent e = absurd (omega (arith, ap length e))
-told (Answer.Done b) Answer.Miss e = absurd (omega (arith, ap length e))
-told (Answer.Done b) (Answer.Hit q m c) e = absurd (omega (arith, ap length e))
-told (Answer.Hit p n a) Answer.Silent e = absurd (omega (arith, ap length e))
-told (Answer.Hit p n a) Answer.Miss e = absurd (omega (arith, ap length e))
-told (Answer.Hit p n a) (Answer.Done c) e = absurd (omega (arith, ap length e))
-
-pub same-answer-iff : (a b : Answer) → (sameAnswer a b ≡ true) ↔ (a ≡ b)
-unfolding sameAnswer
-same-answer-iff a b = (λ h. told a b (numbers-eq (answerNumbers a) (answerNumbers b) h), λ e. rw e (numbers-self (answerNumbers b)))
-
 given-self : (a : Option Answer) → sameGiven a a ≡ true
 given-self none = refl
 given-self (some a) = same-answer-iff a a .1 refl

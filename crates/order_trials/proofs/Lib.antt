@@ -1,3 +1,4 @@
+pub mod SameAnswers
 pub mod Agreeing
 pub mod Counting
 pub mod OnRows

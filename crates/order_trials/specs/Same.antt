@@ -1,18 +1,19 @@
 -- Document 01, "What an order of events does": when two orders agree, as a test. That it is equality of the tables of all switches and of
 -- all answers is proved in proofs/Agreeing.antt.
-use mathlib.Core.Bool.{Bool, true, false, _&&_}
+use mathlib.Core.Bool.{Bool, true, false, not, _&&_, _||_}
 use mathlib.Core.List.{List, [], _∷_}
 use mathlib.Core.Option.{Option, none, some}
 use Prim.Native.Nat.{ℕ}
 use lib.Dec.{eqb}
 use lib.ListN.{length}
-use Rattle.basics.specs.Searches.{allBelow, size}
-use Rattle.flow.specs.Entries.{actionCode, sameKey, sameAction}
+use Rattle.basics.specs.Searches.{allBelow}
+use Rattle.flow.specs.Entries.{sameKey, sameAction}
 use Rattle.flow_table.specs.FlowTable.{Table}
 use Rattle.flow_table.specs.Switches.{Tables}
+use Rattle.replay_answers.specs.Answers.{isSilent}
 use Rattle.order_meaning.specs.Tables.{endTables, answers}
 use Rattle.order_rows.specs.Runs.{operationAt}
-use Rattle.order_trials.specs.Types.{Answer, Event}
+use Rattle.order_trials.specs.Types.{Action, Answer, Event}
 
 -- the same entries, in table order
 abbrev pub sameTable : Table → Table → Bool
@@ -21,22 +22,30 @@ sameTable [] (f ∷ u) = false
 sameTable (e ∷ t) [] = false
 sameTable (e ∷ t) (f ∷ u) = (sameKey (e .key) (f .key) && sameAction (e .action) (f .action)) && sameTable t u
 
--- an answer in numbers: of a hit priority, count and action
-abbrev pub answerNumbers : Answer → List ℕ
-answerNumbers Answer.Silent = []
-answerNumbers Answer.Miss = 0 ∷ []
-answerNumbers (Answer.Done b) = size b ∷ 0 ∷ []
-answerNumbers (Answer.Hit priority count a) = priority ∷ count ∷ actionCode a ∷ []
+abbrev pub isMiss : Answer → Bool
+isMiss Answer.Silent = false
+isMiss Answer.Miss = true
+isMiss (Answer.Hit priority count a) = false
+isMiss (Answer.Done b) = false
 
-abbrev pub sameNumbers : List ℕ → List ℕ → Bool
-sameNumbers [] [] = true
-sameNumbers [] (y ∷ ys) = false
-sameNumbers (x ∷ xs) [] = false
-sameNumbers (x ∷ xs) (y ∷ ys) = eqb x y && sameNumbers xs ys
+abbrev pub isHit : ℕ → ℕ → Action → Answer → Bool
+isHit priority count action Answer.Silent = false
+isHit priority count action Answer.Miss = false
+isHit priority count action (Answer.Hit p n a) = (eqb priority p && eqb count n) && sameAction action a
+isHit priority count action (Answer.Done b) = false
 
--- the same answer, or none in both
-unfoldable pub sameAnswer : Answer → Answer → Bool
-sameAnswer a b = sameNumbers (answerNumbers a) (answerNumbers b)
+abbrev pub isDone : Bool → Answer → Bool
+isDone done Answer.Silent = false
+isDone done Answer.Miss = false
+isDone done (Answer.Hit p n a) = false
+isDone done (Answer.Done b) = (done && b) || (not done && not b)
+
+-- the same answer: none in both, a miss in both, equal priority, count and action, or done in both or in neither
+abbrev pub sameAnswer : Answer → Answer → Bool
+sameAnswer Answer.Silent b = isSilent b
+sameAnswer Answer.Miss b = isMiss b
+sameAnswer (Answer.Hit priority count action) b = isHit priority count action b
+sameAnswer (Answer.Done done) b = isDone done b
 
 abbrev pub sameGiven : Option Answer → Option Answer → Bool
 sameGiven none none = true

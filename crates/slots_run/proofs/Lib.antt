@@ -3,6 +3,5 @@ pub mod Looking
 pub mod Assigning
 pub mod StepEnd
 pub mod RunLaws
-pub mod SameAnswers
 pub mod Comparing
 pub mod SameEnds

@@ -1,21 +1,18 @@
 -- Inner: what an event and an order do to slots.
 use mathlib.Core.Path.{_≡_}
 use mathlib.Core.Logic.{_↔_}
-use mathlib.Core.Bool.{Bool, true, false, not, cond, _&&_, _||_}
+use mathlib.Core.Bool.{Bool, true, not, cond, _&&_}
 use mathlib.Core.List.{List}
 use Prim.Native.Nat.{ℕ, _≤_, _<_}
-use lib.Dec.{eqb}
 use lib.ListN.{length, getD}
 use Rattle.bit_sets.specs.Inner.{member}
-use Rattle.flow.specs.Entries.{sameAction}
 use Rattle.rows.specs.Rows.{SortedRows}
 use Rattle.rows_step.specs.Inner.{chosen, seenRows}
 use Rattle.rows_step.specs.Stepping.{stepRows, answerRows}
-use Rattle.replay_answers.specs.Answers.{isSilent}
 use Rattle.replay_answers.specs.Inner.{keptAt}
 use Rattle.order_rows.specs.Inner.{runRows, answersIn}
 use Rattle.slots.specs.Inner.{stateRows, Marks, Inside, StepFor}
-use Rattle.slots_run.specs.Types.{Action, Answer, Operation, Event, Row, Work, Stepped, Ended}
+use Rattle.slots_run.specs.Types.{Answer, Operation, Event, Row, Work, Stepped, Ended}
 
 -- ---- the codes of all slots
 -- each is an action's
@@ -66,31 +63,6 @@ pub record EndsAs (es : List Event) (slots : List Row) (o : List ℕ) (set codes
   pub inside : Inside slots (r .set)
   pub rows : stateRows slots (r .set) (r .codes) ≡ runRows es o (stateRows slots set codes)
   pub answers : (i : ℕ) → keptAt (r .answers) i ≡ answersIn es o (stateRows slots set codes) i
-
--- ---- the same answer
-abbrev pub isMiss : Answer → Bool
-isMiss Answer.Silent = false
-isMiss Answer.Miss = true
-isMiss (Answer.Hit priority count a) = false
-isMiss (Answer.Done b) = false
-
-abbrev pub isHit : ℕ → ℕ → Action → Answer → Bool
-isHit priority count action Answer.Silent = false
-isHit priority count action Answer.Miss = false
-isHit priority count action (Answer.Hit p n a) = (eqb priority p && eqb count n) && sameAction action a
-isHit priority count action (Answer.Done b) = false
-
-abbrev pub isDone : Bool → Answer → Bool
-isDone done Answer.Silent = false
-isDone done Answer.Miss = false
-isDone done (Answer.Hit p n a) = false
-isDone done (Answer.Done b) = (done && b) || (not done && not b)
-
-abbrev pub sameAnswer : Answer → Answer → Bool
-sameAnswer Answer.Silent b = isSilent b
-sameAnswer Answer.Miss b = isMiss b
-sameAnswer (Answer.Hit priority count action) b = isHit priority count action b
-sameAnswer (Answer.Done done) b = isDone done b
 
 -- ---- the same end
 abbrev pub SameEnds : Ended → Ended → ℕ → Bool → Type 0

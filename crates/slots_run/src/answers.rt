@@ -3,7 +3,7 @@ use flow::Action;
 use flow_table::Answer;
 use replay_answers::is_silent;
 ghost use mathlib.Core.Path.{_≡_};
-ghost use Rattle.slots_run.specs.Inner.{isMiss, isHit, isDone, sameAnswer};
+ghost use Rattle.order_trials.specs.Same.{isMiss, isHit, isDone, sameAnswer};
 
 fn is_miss(a: Answer) -> bool
     ensures { λ r. ⌜ r ≡ isMiss a ⌝ }

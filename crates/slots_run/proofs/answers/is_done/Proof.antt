@@ -1,7 +1,7 @@
 -- Done: by the two values.
 use Rattle.basics.proofs.Arrays.{by-arm}
 use mathlib.Core.Path.{refl}
-use Rattle.slots_run.specs.Inner.{isDone}
+use Rattle.order_trials.specs.Same.{isDone}
 use borrow.Author.Needs.{needs}
 use Rattle.slots_run.proofs.answers.is_done.Statement.{statement}
 use Rattle.slots_run.proofs.answers.is_done.Tie as tie

@@ -1,7 +1,7 @@
 -- A hit: by priority, count and action.
 use Rattle.basics.proofs.Arrays.{by-arm}
 use mathlib.Core.Path.{refl}
-use Rattle.slots_run.specs.Inner.{isHit}
+use Rattle.order_trials.specs.Same.{isHit}
 use borrow.Author.Needs.{needs}
 use Rattle.slots_run.proofs.answers.is_hit.Statement.{statement}
 use Rattle.slots_run.proofs.answers.is_hit.Tie as tie

@@ -1,6 +1,6 @@
 -- Each answer has a test of its own.
 use Rattle.basics.proofs.Arrays.{by-arm}
-use Rattle.slots_run.specs.Inner.{sameAnswer}
+use Rattle.order_trials.specs.Same.{sameAnswer}
 use borrow.Author.Needs.{needs}
 use Rattle.slots_run.proofs.answers.same_answer.Statement.{statement}
 use Rattle.slots_run.proofs.answers.same_answer.Tie as tie

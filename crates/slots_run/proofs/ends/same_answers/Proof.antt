@@ -8,7 +8,7 @@ use borrow.Author.Needs.{needs}
 use Rattle.basics.proofs.Arrays.{length-mapped, holds-more}
 use Rattle.basics.proofs.Booleans.{was-false, was-true}
 use Rattle.replay_answers.specs.Inner.{keptAt}
-use Rattle.slots_run.proofs.SameAnswers.{same-answer-iff}
+use Rattle.order_trials.proofs.SameAnswers.{same-answer-iff}
 use Rattle.slots_run.proofs.ends.same_answers.Statement.{statement}
 use Rattle.slots_run.proofs.ends.same_answers.Tie as tie
 

@@ -1,4 +1,4 @@
--- Answers that are the same, one and all below a number. Assumes nothing.
+-- The test of two answers is equality. Assumes nothing.
 use mathlib.Core.Path.{_≡_, refl, ap, subst}
 use mathlib.Core.Logic.{_↔_}
 use mathlib.Core.Bool.{Bool, true, false, not, _&&_, _||_, false≢true}
@@ -8,8 +8,8 @@ use borrow.Author.Tests.{eqb-true, eq-eqb}
 use Rattle.basics.proofs.Booleans.{and-intro, and-left, and-right}
 use Rattle.flow.specs.Entries.{sameAction}
 use Rattle.flow.proofs.Entries.{action-eq, action-self}
-use Rattle.slots_run.specs.Types.{Action, Answer}
-use Rattle.slots_run.specs.Inner.{sameAnswer}
+use Rattle.order_trials.specs.Types.{Action, Answer}
+use Rattle.order_trials.specs.Same.{sameAnswer}
 
 bool-eq : (p q : Bool) → ((p && q) || (not p && not q)) ≡ true → p ≡ q
 bool-eq true true e = refl
@@ -26,7 +26,7 @@ hit-eq m i x n j y e =
     let l = and-left (eqb m n && eqb i j) (sameAction x y) e in
     rw (eqb-true m n (and-left (eqb m n) (eqb i j) l), eqb-true i j (and-right (eqb m n) (eqb i j) l), action-eq x y (and-right (eqb m n && eqb i j) (sameAction x y) e)) refl
 
-pub answer-eq : (a b : Answer) → sameAnswer a b ≡ true → a ≡ b
+answer-eq : (a b : Answer) → sameAnswer a b ≡ true → a ≡ b
 answer-eq Answer.Silent Answer.Silent e = refl
 answer-eq Answer.Silent Answer.Miss e = absurd (false≢true e)
 answer-eq Answer.Silent (Answer.Hit n j y) e = absurd (false≢true e)

@@ -1,5 +1,6 @@
 pub mod Turns
 pub mod Finding
+pub mod AskingLaws
 pub mod MaskLaws
 pub mod PlanLaws
 pub mod SlotLaws

@@ -1,7 +1,7 @@
 -- The invariant: the slots below i have their bits.
 use Prim.Native.Nat.{ℕ, _-_, _≤_, _<_}
 use native.Mathlib.Omega.{arith}
-use mathlib.Core.Path.{_≡_, sym, ap, subst}
+use mathlib.Core.Path.{_≡_, sym, subst}
 use lib.ListN.{length, getD, length-set}
 use lib.Seq.{getD-take, length-take-le}
 use borrow.Author.Needs.{needs}

@@ -12,6 +12,7 @@ use Rattle.trace_text.specs.TraceText.{readTrace}
 use Rattle.trace_text.specs.Inner.{asTrace}
 use Rattle.list_pairs.specs.List.{listOf, pairBytes, Listing, listingOf}
 use Rattle.list_pairs.specs.Inner.{HoldsList}
+use Rattle.list_pairs.proofs.Made.{counts-are, list-is}
 use Rattle.basics.specs.Text.{startingWith}
 use Rattle.list_call.specs.Types.{Event, Counts, Refusal, ListAnswer, Outcome, TraceRead}
 use Rattle.list_call.specs.Races.{listRaces, listAnswer, listOut}
@@ -19,12 +20,8 @@ use Rattle.list_call.specs.Inner.{fitted, Lists}
 
 -- ---- the list in a buffer of its own
 module _ (es : List Event) (c : Counts) (bytes : List ℕ) (h : HoldsList es c bytes) where
-  listed-bytes : take (2 * c .listed) bytes ≡ pairBytes (listOf es)
-  unfolding listingOf
-  listed-bytes = ap (λ (l : Listing). l .bytes) (h .listing)
-
   needed-is : 2 * c .listed ≡ length (pairBytes (listOf es))
-  needed-is = sym (length-take-le (2 * c .listed) bytes (h .within)) ∙ ap length listed-bytes
+  needed-is = sym (length-take-le (2 * c .listed) bytes (h .within)) ∙ ap length (list-is es c bytes h)
 
   module _ (old : List ℕ) where
     pub list-short : length old < 2 * c .listed → Lists (fitted es (length old)) (ListAnswer.Refused (Refusal.ListShort (2 * c .listed))) old old
@@ -38,9 +35,9 @@ module _ (es : List Event) (c : Counts) (bytes : List ℕ) (h : HoldsList es c b
     unfolding fitted listingOf
     list-done src out m s o =
         let t = short-passed (length old) (pairBytes (listOf es)) Refusal.ListShort (omega (arith, needed-is)) in
-        let w : src ≡ pairBytes (listOf es) = s ∙ listed-bytes in
+        let w : src ≡ pairBytes (listOf es) = s ∙ list-is es c bytes h in
         rw t (record {
-          answer = ap (λ (l : Listing). ListAnswer.Counts (l .counts)) (h .listing);
+          answer = ap ListAnswer.Counts (counts-are es c bytes h);
           buffer = o ∙ ap (λ (x : List ℕ). x ++ drop (length src) old) (take-all (length src) src (omega arith)) ∙ ap (λ (x : List ℕ). startingWith x old) w;
         })
 

@@ -9,7 +9,7 @@ use Rattle.call_answers.specs.Inner.{Small}
 use Rattle.trace_events.specs.Events.{eventsOf}
 use Rattle.list_verdicts.specs.Kinds.{Kind, listed}
 use Rattle.list_pairs.specs.Types.{Event, Trace, Counts}
-use Rattle.list_pairs.specs.List.{listOf, count, pairBytes, countsOf, listingOf}
+use Rattle.list_pairs.specs.List.{listOf, count, pairBytes, countsOf, Listing, listingOf}
 use Rattle.list_pairs.specs.Inner.{countOf, HoldsList}
 use Rattle.list_pairs.proofs.PairLaws.{bytes-length, small-of}
 use Rattle.list_pairs.proofs.Sizes.{count-most}
@@ -48,6 +48,15 @@ module _ (es : List Event) (few : length es ≤ 256) (c : Counts) (e : c ≡ cou
       ∙ take-at (pairBytes (listOf es)) (drop (0 + length (pairBytes (listOf es))) room) (2 * c .listed) bytes-taken in
       record { listing = λ m. record { counts = e m; bytes = taken m }; most = listed-most; within = omega (arith, listed-most, ap length h, length-sets room 0 (pairBytes (listOf es))); small = counts-small }
 
--- the list fits where its length does
-pub list-fits : (es : List Event) (c : Counts) (bytes : List ℕ) → HoldsList es c bytes → (room : ℕ) → 2 * c .listed ≤ room → length (take (2 * c .listed) bytes) ≤ room
-list-fits es c bytes h room m = omega (arith, length-take-le (2 * c .listed) bytes (h .within))
+module _ (es : List Event) (c : Counts) (bytes : List ℕ) (h : HoldsList es c bytes) where
+  pub counts-are : c ≡ countsOf es
+  unfolding listingOf
+  counts-are = ap (λ (l : Listing). l .counts) (h .listing)
+
+  pub list-is : take (2 * c .listed) bytes ≡ pairBytes (listOf es)
+  unfolding listingOf
+  list-is = ap (λ (l : Listing). l .bytes) (h .listing)
+
+  -- the list fits where its length does
+  pub list-fits : (room : ℕ) → 2 * c .listed ≤ room → length (take (2 * c .listed) bytes) ≤ room
+  list-fits room m = omega (arith, length-take-le (2 * c .listed) bytes (h .within))

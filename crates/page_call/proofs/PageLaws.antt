@@ -15,8 +15,9 @@ use Rattle.trace_text.specs.TraceText.{readTrace}
 use Rattle.trace_text.specs.Inner.{asTrace}
 use Rattle.trace_text.proofs.Accepted.{events-in-range}
 use Rattle.list_verdicts.specs.Kinds.{listed}
-use Rattle.list_pairs.specs.List.{listOf, pairBytes, count, countsOf, Listing, listingOf}
+use Rattle.list_pairs.specs.List.{count, countsOf}
 use Rattle.list_pairs.specs.Inner.{HoldsList}
+use Rattle.list_pairs.proofs.Made.{counts-are, list-is}
 use Rattle.page_text.specs.Page.{countTexts, pageText}
 use Rattle.page_text.specs.Inner.{pairsText}
 use Rattle.page_text.proofs.Putting.{page-put}
@@ -28,17 +29,9 @@ use Rattle.page_call.specs.Inner.{fitted, Pages, Ranged}
 
 -- ---- the list in a buffer of its own
 module _ (es : List Event) (c : Counts) (bytes : List ℕ) (h : HoldsList es c bytes) where
-  counts-are : c ≡ countsOf es
-  unfolding listingOf
-  counts-are = ap (λ (l : Listing). l .counts) (h .listing)
-
-  pub list-is : take (2 * c .listed) bytes ≡ pairBytes (listOf es)
-  unfolding listingOf
-  list-is = ap (λ (l : Listing). l .bytes) (h .listing)
-
   listed-is : c .listed ≡ count listed es
   unfolding countsOf
-  listed-is = ap (λ (d : Counts). d .listed) counts-are
+  listed-is = ap (λ (d : Counts). d .listed) (counts-are es c bytes h)
 
   module _ (few : length es ≤ 256) (range : (i : ℕ) → EventInRange (eventAt es i)) (old : List ℕ) where
     needed-is : 61 * (c .listed + 4) ≡ length (pageText es)
@@ -54,7 +47,7 @@ module _ (es : List Event) (c : Counts) (bytes : List ℕ) (h : HoldsList es c b
         → Pages (fitted es (length old)) (PageAnswer.Length n) old out
     unfolding fitted
     page-done {n = n} m p q =
-        let put = page-put es (take (2 * c .listed) bytes) c list-is counts-are p q in
+        let put = page-put es (take (2 * c .listed) bytes) c (list-is es c bytes h) (counts-are es c bytes h) p q in
         let t = short-passed (length old) (pageText es) Refusal.PageShort (omega (arith, needed-is)) in
         let e : n ≡ length (pageText es) = omega (arith, put .after) in
         rw t (record { answer = ap PageAnswer.Length e; buffer = put-whole put (omega (arith, needed-is)) ∙ rw e refl })

@@ -2,9 +2,9 @@
 use native.Mathlib.Omega.{arith}
 use mathlib.Core.Path.{sym}
 use lib.Seq.{length-take-le}
-use Rattle.list_pairs.proofs.Made.{events-most, list-fits}
+use Rattle.list_pairs.proofs.Made.{events-most, list-is, list-fits}
 use Rattle.page_text.proofs.Inside.{list-inside}
-use Rattle.page_call.proofs.PageLaws.{list-is, page-short, page-done}
+use Rattle.page_call.proofs.PageLaws.{page-short, page-done}
 use borrow.Author.Needs.{needs}
 use Rattle.page_call.proofs.paging.put_page.Statement.{statement}
 use Rattle.page_call.proofs.paging.put_page.Tie as tie

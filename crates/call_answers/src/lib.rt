@@ -3,6 +3,7 @@ pub mod list;
 pub mod normal;
 pub mod page;
 pub mod replay;
+pub mod share;
 pub mod trials;
 
 pub use list::Counts;
@@ -10,4 +11,6 @@ pub use list::ListAnswer;
 pub use normal::NormalAnswer;
 pub use page::PageAnswer;
 pub use replay::ReplayAnswer;
+pub use share::Share;
+pub use share::ShareAnswer;
 pub use trials::TrialsAnswer;

@@ -3,19 +3,22 @@ use exports_values::Listed;
 use exports_values::Normalised;
 use exports_values::Paged;
 use exports_values::Replayed;
+use exports_values::Shared;
 use exports_values::Tried;
 use exports_values::list_as;
 use exports_values::normal_as;
 use exports_values::page_as;
 use exports_values::replay_as;
+use exports_values::share_as;
 use exports_values::trials_as;
 ghost use mathlib.Core.Path.{_≡_};
 ghost use lib.ListN.{length};
 ghost use Rattle.refusals.specs.Checks.{written};
-ghost use Rattle.exports_values.specs.Values.{listAs, normalAs, pageAs, replayAs, trialsAs};
+ghost use Rattle.exports_values.specs.Values.{listAs, normalAs, pageAs, replayAs, shareAs, trialsAs};
 ghost use Rattle.list_call.specs.Races.{listRaces, listAnswer, listOut};
 ghost use Rattle.tables_normal.specs.Normal.{normalised, normalAnswer};
 ghost use Rattle.page_call.specs.Paged.{paged, pageAnswer};
+ghost use Rattle.share_call.specs.Shared.{shared, shareAnswer};
 ghost use Rattle.replay_texts.specs.Writing.{replayAnswer, tablesOut, answersOut};
 ghost use Rattle.replay_call.specs.Replay.{replayed};
 ghost use Rattle.trials_call.specs.Tried.{tried, trialsAnswer};
@@ -49,6 +52,15 @@ pub extern "C" fn gellunka_page(trace: &[u8], out: &mut [u8]) -> Paged
 {
     let answer = page_call::page(trace, out);
     page_as(trace, answer)
+}
+
+// How many of 1,000 unordered pairs of a trace commute, with what is left over.
+#[no_mangle]
+pub extern "C" fn gellunka_share(trace: &[u8]) -> Shared
+    ensures { λ r. ⌜ r ≡ shareAs (now (trace .entry)) (shareAnswer (shared (now (trace .entry)))) ⌝ }
+{
+    let answer = share_call::share(trace);
+    share_as(trace, answer)
 }
 
 // A trace's events in the given order, one byte for each event, from the tables of a text: the normalised end tables and the

@@ -2,9 +2,9 @@
 use Prim.Native.Nat.{ℕ}
 use mathlib.Core.List.{List, []}
 use mathlib.Core.Path.{_≡_, refl}
-use Rattle.exports_values.specs.Types.{Refusal, Counts, ListAnswer, NormalAnswer, PageAnswer, ReplayAnswer, TrialsAnswer, Refused}
+use Rattle.exports_values.specs.Types.{Refusal, Counts, ListAnswer, NormalAnswer, PageAnswer, ReplayAnswer, Share, ShareAnswer, TrialsAnswer, Refused}
 use Rattle.refusals.specs.Refused.{nothingRefused, refusedAs}
-use Rattle.exports_values.specs.Values.{listAs, normalAs, pageAs, replayAs, trialsAs}
+use Rattle.exports_values.specs.Values.{listAs, normalAs, pageAs, replayAs, shareAs, trialsAs}
 
 pub list-counted : (trace : List ℕ) {answer : ListAnswer} {c : Counts} {x : Refused} → answer ≡ ListAnswer.Counts c → x ≡ nothingRefused
     → record { refused = x; pairs = c .pairs; ordered = c .ordered; commuting = c .commuting; listed = c .listed } ≡ listAs trace answer
@@ -45,6 +45,16 @@ pub replay-refused : (trace tables : List ℕ) {answer : ReplayAnswer} {r : Refu
     → record { refused = x; tables = 0; answers = 0 } ≡ replayAs trace tables answer
 unfolding replayAs
 replay-refused trace tables e h = rw (e, h) refl
+
+pub share-divided : (trace : List ℕ) {answer : ShareAnswer} {v : Share} {x : Refused} → answer ≡ ShareAnswer.Share v → x ≡ nothingRefused
+    → record { refused = x; quotient = v .quotient; remainder = v .remainder; divisor = v .divisor } ≡ shareAs trace answer
+unfolding shareAs
+share-divided trace e h = rw (e, h) refl
+
+pub share-refused : (trace : List ℕ) {answer : ShareAnswer} {r : Refusal} {x : Refused} → answer ≡ ShareAnswer.Refused r → x ≡ refusedAs trace [] r
+    → record { refused = x; quotient = 0; remainder = 0; divisor = 0 } ≡ shareAs trace answer
+unfolding shareAs
+share-refused trace e h = rw (e, h) refl
 
 pub trials-counted : (trace tables : List ℕ) {answer : TrialsAnswer} {n : ℕ} {x : Refused} → answer ≡ TrialsAnswer.Orders n → x ≡ nothingRefused
     → record { refused = x; orders = n } ≡ trialsAs trace tables answer

@@ -1,7 +1,7 @@
 -- What the calls for other programs answer: the answer of the call, as numbers.
 use Prim.Native.Nat.{ℕ}
 use mathlib.Core.List.{List, []}
-use Rattle.exports_values.specs.Types.{ListAnswer, Listed, NormalAnswer, Normalised, PageAnswer, Paged, ReplayAnswer, Replayed, TrialsAnswer, Tried}
+use Rattle.exports_values.specs.Types.{ListAnswer, Listed, NormalAnswer, Normalised, PageAnswer, Paged, ReplayAnswer, Replayed, ShareAnswer, Shared, TrialsAnswer, Tried}
 use Rattle.refusals.specs.Refused.{nothingRefused, refusedAs}
 
 -- the list call on a trace: the counts, or the refusal and counts of 0
@@ -24,6 +24,11 @@ pageAs trace (PageAnswer.Refused r) = record { refused = refusedAs trace [] r; l
 unfoldable pub replayAs : List ℕ → List ℕ → ReplayAnswer → Replayed
 replayAs trace tables (ReplayAnswer.Lengths m n) = record { refused = nothingRefused; tables = m; answers = n }
 replayAs trace tables (ReplayAnswer.Refused r) = record { refused = refusedAs trace tables r; tables = 0; answers = 0 }
+
+-- the share of a trace: quotient, remainder and divisor, or the refusal and 0 for each
+unfoldable pub shareAs : List ℕ → ShareAnswer → Shared
+shareAs trace (ShareAnswer.Share x) = record { refused = nothingRefused; quotient = x .quotient; remainder = x .remainder; divisor = x .divisor }
+shareAs trace (ShareAnswer.Refused r) = record { refused = refusedAs trace [] r; quotient = 0; remainder = 0; divisor = 0 }
 
 -- orders of a trace tried on tables: how many, or the refusal and 0
 unfoldable pub trialsAs : List ℕ → List ℕ → TrialsAnswer → Tried

@@ -1,9 +1,9 @@
 -- The refusal that a call tells is the first of document 01's list that applies, of the checks that concern what the call is given.
 -- Assumes nothing.
-use mathlib.Core.Path.{_≡_, sym, _∙_}
+use mathlib.Core.Path.{_≡_, sym, subst, _∙_}
 use mathlib.Core.Bool.{true, true≢false}
 use mathlib.Core.Logic.{_↔_, inl, inr}
-use mathlib.Core.List.{List, [], _∷_, _++_}
+use mathlib.Core.List.{List, [], _∷_, _++_, append-nil}
 use Prim.Native.Nat.{ℕ, _<_}
 use lib.Dec.{ltb}
 use lib.ListN.{length}
@@ -18,10 +18,12 @@ use Rattle.tables_text.specs.TableText.{readTables}
 use Rattle.tables_text.specs.Meaning.{IsTables}
 use Rattle.tables_text.proofs.Meaning.{tables-accepted-iff}
 use Rattle.tables_normal.specs.Normal.{normalText, normalised}
-use Rattle.list_pairs.specs.List.{listOf, pairBytes, listingOf}
+use Rattle.list_pairs.specs.List.{listOf, pairBytes, countsOf, listingOf}
 use Rattle.list_call.specs.Races.{listRaces}
 use Rattle.page_text.specs.Page.{pageText}
 use Rattle.page_call.specs.Paged.{paged}
+use Rattle.share.specs.Share.{shareOf}
+use Rattle.share_call.specs.Shared.{shared}
 use Rattle.order_meaning.specs.Tables.{endTables}
 use Rattle.rows.specs.Rows.{tablesOf}
 use Rattle.order_check.specs.Schedule.{checkOrder}
@@ -37,7 +39,7 @@ use Rattle.refusals_order.specs.Causes.{Cause, FirstOf, Of}
 use Rattle.refusals_order.specs.Traces.{traceCauses}
 use Rattle.refusals_order.specs.Tables.{tablesCauses}
 use Rattle.refusals_order.specs.Orders.{incompleteCause, earlyPutCause, orderCauses}
-use Rattle.refusals_order.specs.Calls.{shortCause, listCauses, pageCauses, normalCauses, OfBoth, heldCause, endShortCause, answersShortCause, replayCauses, Uneven, unevenCause, trialsShortCause, trialsCauses}
+use Rattle.refusals_order.specs.Calls.{shortCause, listCauses, pageCauses, shareCauses, normalCauses, OfBoth, heldCause, endShortCause, answersShortCause, replayCauses, Uneven, unevenCause, trialsShortCause, trialsCauses}
 use Rattle.refusals_order.proofs.Causes.{Same, Tells, tells-same, then-tells, when-tells, short-tells, never-tells, of-said}
 use Rattle.refusals_order.proofs.Traces.{trace-tells}
 use Rattle.refusals_order.proofs.Tables.{tables-tell}
@@ -71,6 +73,16 @@ list-refused-iff trace room = then-short (readTrace trace) (IsTrace trace) (trac
 pub page-refused-iff : (trace : List ℕ) (room : ℕ) (r : Refusal) → (paged trace room ≡ inl r) ↔ FirstOf (pageCauses trace room) r
 unfolding paged pageCauses
 page-refused-iff trace room = then-short (readTrace trace) (IsTrace trace) (trace-accepted-iff trace) (traceCauses trace) (trace-tells trace) room Refusal.PageShort pageText pageText
+
+-- no check follows an accepted text
+then-none : {A B : Type 0} (x : Checked A) (cs : List Cause) → Tells x cs → (value : A → B) → Tells (x ▹ λ a. inr (value a)) cs
+then-none x cs t value =
+    subst (Tells (x ▹ λ a. inr (value a))) (append-nil cs) (then-tells x (λ a. inr (value a)) cs [] t (λ a e. never-tells (value a)))
+
+-- THE refusal of the share: the first of 1 to 8 that applies
+pub share-refused-iff : (trace : List ℕ) (r : Refusal) → (shared trace ≡ inl r) ↔ FirstOf (shareCauses trace) r
+unfolding shared
+share-refused-iff trace = then-none (readTrace trace) (traceCauses trace) (trace-tells trace) (λ es. shareOf (countsOf es))
 
 -- THE refusal of the normaliser: the first of 11 to 16, 32 that applies
 pub normal-refused-iff : (tables : List ℕ) (room : ℕ) (r : Refusal) → (normalised tables room ≡ inl r) ↔ FirstOf (normalCauses tables room) r

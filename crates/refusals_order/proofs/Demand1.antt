@@ -18,6 +18,8 @@ use Rattle.list_pairs.specs.List.{Listing, listOf, pairBytes, countsOf, listing
 use Rattle.list_call.specs.Races.{listRaces, listAnswer, listOut}
 use Rattle.page_text.specs.Page.{pageText}
 use Rattle.page_call.specs.Paged.{paged, pageAnswer}
+use Rattle.share.specs.Share.{shareOf}
+use Rattle.share_call.specs.Shared.{shared, shareAnswer}
 use Rattle.replay_texts.specs.Writing.{Replayed, replayAnswer, tablesOut, answersOut}
 use Rattle.order_meaning.specs.Tables.{endTables}
 use Rattle.rows.specs.Rows.{tablesOf}
@@ -27,11 +29,11 @@ use Rattle.replay_call.specs.Replay.{entriesHeld, textsOf, replayed}
 use Rattle.order_trials.specs.Trials.{uneven, orderBytes}
 use Rattle.trials_call.specs.Tried.{tried, trialsAnswer}
 use Rattle.trials_call.specs.Inner.{triedFrom}
-use Rattle.refusals_order.specs.Types.{Refusal, Event, Row, ListAnswer}
-use Rattle.refusals_order.specs.Calls.{listCauses, pageCauses, normalCauses, replayCauses, trialsCauses}
-use Rattle.refusals_order.specs.Demand1.{ListRefused, ListDone, PageRefused, PageDone, NormalRefused, NormalDone, ReplayRefused, ReplayDone, TrialsRefused, TrialsDone, Demand1}
+use Rattle.refusals_order.specs.Types.{Refusal, Event, Row, Share, ListAnswer}
+use Rattle.refusals_order.specs.Calls.{listCauses, pageCauses, shareCauses, normalCauses, replayCauses, trialsCauses}
+use Rattle.refusals_order.specs.Demand1.{ListRefused, ListDone, PageRefused, PageDone, ShareRefused, ShareDone, NormalRefused, NormalDone, ReplayRefused, ReplayDone, TrialsRefused, TrialsDone, Demand1}
 use Rattle.refusals_order.proofs.Causes.{handed-none}
-use Rattle.refusals_order.proofs.Calls.{follows, list-refused-iff, page-refused-iff, normal-refused-iff, replay-refused-iff, trials-refused-iff}
+use Rattle.refusals_order.proofs.Calls.{follows, list-refused-iff, page-refused-iff, share-refused-iff, normal-refused-iff, replay-refused-iff, trials-refused-iff}
 
 -- ---- what an accepted input hands on
 module _ {A B : Type 0} (x : Checked A) (room : ℕ) (text : A → List ℕ) (refusal : ℕ → Refusal) (value : A → B) {b : B} where
@@ -47,6 +49,12 @@ listed-on trace room l h = fits-on (readTrace trace) room (λ es. pairBytes (lis
 page-on : (trace : List ℕ) (room : ℕ) (t : List ℕ) → paged trace room ≡ inr t → (es : List Event) × (readTrace trace ≡ inr es) × (pageText es ≡ t)
 unfolding paged
 page-on trace room t h = fits-on (readTrace trace) room pageText Refusal.PageShort pageText h
+
+shared-on : (trace : List ℕ) (x : Share) → shared trace ≡ inr x → (es : List Event) × (readTrace trace ≡ inr es) × (shareOf (countsOf es) ≡ x)
+unfolding shared
+shared-on trace x h =
+    let (es, e, f) = handed-on (readTrace trace) (λ es. inr (shareOf (countsOf es))) h in
+    (es, e, same-value f)
 
 normal-on : (tables : List ℕ) (room : ℕ) (t : List ℕ) → normalised tables room ≡ inr t → (rs : List Row) × (readTables tables ≡ inr rs) × (normalText rs ≡ t)
 unfolding normalised
@@ -141,6 +149,20 @@ page-does trace old = go (paged trace (length old)) refl
           bytes = ap (λ y. written y old) g;
         })
 
+share-does : (trace : List ℕ) → ShareRefused trace ⊎ ShareDone trace
+share-does trace = go (shared trace) refl
+  where
+    go : (y : Checked Share) → shared trace ≡ y → ShareRefused trace ⊎ ShareDone trace
+    go (inl r) e = inl (record { refusal = r; first = share-refused-iff trace r .0 e; returned = ap shareAnswer e })
+    go (inr x) e =
+        let (es, h, f) = shared-on trace x e in
+        inr (record {
+          none = handed-none (shared trace) (shareCauses trace) (share-refused-iff trace) .0 (x, e);
+          events = es;
+          accepted = trace-accepted-iff trace es .0 h;
+          returned = ap shareAnswer (e ∙ ap inr (sym f));
+        })
+
 normal-does : (tables old : List ℕ) → NormalRefused tables old ⊎ NormalDone tables old
 normal-does tables old = go (normalised tables (length old)) refl
   where
@@ -216,4 +238,4 @@ trials-does trace tables os old = go (tried trace tables os (length old)) refl
         })
 
 pub demand-1 : Demand1
-demand-1 = record { list = list-does; page = page-does; normalise = normal-does; replay = replay-does; trials = trials-does }
+demand-1 = record { list = list-does; page = page-does; share = share-does; normalise = normal-does; replay = replay-does; trials = trials-does }

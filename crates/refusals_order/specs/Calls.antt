@@ -31,6 +31,10 @@ listCauses trace room = traceCauses trace ++ (Of (IsTrace trace) (λ es. shortCa
 unfoldable pub pageCauses : List ℕ → ℕ → List Cause
 pageCauses trace room = traceCauses trace ++ (Of (IsTrace trace) (λ es. shortCause room Refusal.PageShort (pageText es)) ∷ [])
 
+-- the share: 1 to 8
+abbrev pub shareCauses : List ℕ → List Cause
+shareCauses trace = traceCauses trace
+
 -- the normaliser: 11 to 16; 32
 unfoldable pub normalCauses : List ℕ → ℕ → List Cause
 normalCauses tables room = tablesCauses tables ++ (Of (IsTables tables) (λ rs. shortCause room Refusal.TablesShort (normalText rs)) ∷ [])

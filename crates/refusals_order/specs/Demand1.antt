@@ -16,15 +16,17 @@ use Rattle.list_pairs.specs.List.{listOf, pairBytes, countsOf}
 use Rattle.list_call.specs.Races.{listRaces, listAnswer, listOut}
 use Rattle.page_text.specs.Page.{pageText}
 use Rattle.page_call.specs.Paged.{paged, pageAnswer}
+use Rattle.share.specs.Share.{shareOf}
+use Rattle.share_call.specs.Shared.{shared, shareAnswer}
 use Rattle.order_meaning.specs.Tables.{endTables}
 use Rattle.order_rows.specs.Runs.{operationAt}
 use Rattle.replay_texts.specs.Writing.{replayAnswer, tablesOut, answersOut}
 use Rattle.replay_call.specs.Replay.{answerLines, replayed}
 use Rattle.order_trials.specs.Trials.{orderBytes}
 use Rattle.trials_call.specs.Tried.{tried, trialsAnswer}
-use Rattle.refusals_order.specs.Types.{Refusal, Event, Row, ListAnswer, NormalAnswer, PageAnswer, ReplayAnswer, TrialsAnswer}
+use Rattle.refusals_order.specs.Types.{Refusal, Event, Row, ListAnswer, NormalAnswer, PageAnswer, ReplayAnswer, ShareAnswer, TrialsAnswer}
 use Rattle.refusals_order.specs.Causes.{FirstOf, NoneOf}
-use Rattle.refusals_order.specs.Calls.{listCauses, pageCauses, normalCauses, replayCauses, trialsCauses}
+use Rattle.refusals_order.specs.Calls.{listCauses, pageCauses, shareCauses, normalCauses, replayCauses, trialsCauses}
 
 -- ---- the list call on a trace and a buffer
 module _ (trace old : List ℕ) where
@@ -55,6 +57,19 @@ module _ (trace old : List ℕ) where
     pub accepted : IsTrace trace events
     pub returned : pageAnswer (paged trace (length old)) ≡ PageAnswer.Length (length (pageText events))
     pub bytes : written (paged trace (length old)) old ≡ startingWith (pageText events) old
+
+-- ---- the share call on a trace
+module _ (trace : List ℕ) where
+  pub record ShareRefused : Type 0 where
+    pub refusal : Refusal
+    pub first : FirstOf (shareCauses trace) refusal
+    pub returned : shareAnswer (shared trace) ≡ ShareAnswer.Refused refusal
+
+  pub record ShareDone : Type 0 where
+    pub none : NoneOf (shareCauses trace)
+    pub events : List Event
+    pub accepted : IsTrace trace events
+    pub returned : shareAnswer (shared trace) ≡ ShareAnswer.Share (shareOf (countsOf events))
 
 -- ---- the normaliser on a table text and a buffer
 module _ (tables old : List ℕ) where
@@ -118,6 +133,7 @@ module _ (trace tables os old : List ℕ) where
 pub record Demand1 : Type 0 where
   pub list : (trace old : List ℕ) → ListRefused trace old ⊎ ListDone trace old
   pub page : (trace old : List ℕ) → PageRefused trace old ⊎ PageDone trace old
+  pub share : (trace : List ℕ) → ShareRefused trace ⊎ ShareDone trace
   pub normalise : (tables old : List ℕ) → NormalRefused tables old ⊎ NormalDone tables old
   pub replay : (trace tables o old old' : List ℕ) → ReplayRefused trace tables o old old' ⊎ ReplayDone trace tables o old old'
   pub trials : (trace tables os old : List ℕ) → TrialsRefused trace tables os old ⊎ TrialsDone trace tables os old

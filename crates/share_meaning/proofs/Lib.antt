@@ -1,0 +1,2 @@
+pub mod Unordered
+pub mod Theorems

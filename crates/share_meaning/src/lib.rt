@@ -1,0 +1,1 @@
+// The share in document 01's words. Definitions and theorems only.

@@ -86,6 +86,14 @@ struct gellunka_paged {
     size_t length; /* of the page: 61 * (listed + 4) */
 };
 
+/* The answer of gellunka_share. After a refusal all three numbers are 0. */
+struct gellunka_shared {
+    struct gellunka_refused refused;
+    size_t quotient;  /* how often the divisor goes into 1000 * commuting */
+    size_t remainder; /* what remains of 1000 * commuting */
+    size_t divisor;   /* commuting + listed, the pairs that are not ordered */
+};
+
 /* The answer of gellunka_normalise. After a refusal the length is 0. */
 struct gellunka_normalised {
     struct gellunka_refused refused;
@@ -146,6 +154,20 @@ struct gellunka_listed gellunka_list_races(const uint8_t *trace, size_t trace_le
  */
 struct gellunka_paged gellunka_page(const uint8_t *trace, size_t trace_length, uint8_t *out,
                                     size_t out_length);
+
+/*
+ * How many of a trace's pairs that are not ordered commute, in thousandths and with what remains.
+ *
+ * Refuses by 1 to 8. Otherwise, with the counts that gellunka_list_races gives of the same trace into a long
+ * enough buffer:
+ *
+ *    divisor == commuting + listed == pairs - ordered
+ *    quotient * divisor + remainder == 1000 * commuting
+ *    remainder < divisor, where divisor is not 0
+ *
+ * The divisor is 0 exactly if all pairs are ordered or there is none, and then all three numbers are 0.
+ */
+struct gellunka_shared gellunka_share(const uint8_t *trace, size_t trace_length);
 
 /*
  * The normal form of a table text: switches rising, then table order.

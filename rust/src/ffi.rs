@@ -30,6 +30,15 @@ pub struct Paged {
     pub length: usize,
 }
 
+/// `struct gellunka_shared`.
+#[repr(C)]
+pub struct Shared {
+    pub refused: Refused,
+    pub quotient: usize,
+    pub remainder: usize,
+    pub divisor: usize,
+}
+
 /// `struct gellunka_normalised`.
 #[repr(C)]
 pub struct Normalised {
@@ -55,6 +64,7 @@ pub struct Tried {
 extern "C" {
     fn gellunka_list_races(trace: *const u8, trace_length: usize, out: *mut u8, out_length: usize) -> Listed;
     fn gellunka_page(trace: *const u8, trace_length: usize, out: *mut u8, out_length: usize) -> Paged;
+    fn gellunka_share(trace: *const u8, trace_length: usize) -> Shared;
     fn gellunka_normalise(
         tables: *const u8,
         tables_length: usize,
@@ -94,6 +104,11 @@ pub fn list_races(trace: &[u8], out: &mut [u8]) -> Listed {
 pub fn page(trace: &[u8], out: &mut [u8]) -> Paged {
     // SAFETY: as above.
     unsafe { gellunka_page(trace.as_ptr(), trace.len(), out.as_mut_ptr(), out.len()) }
+}
+
+pub fn share(trace: &[u8]) -> Shared {
+    // SAFETY: as above.
+    unsafe { gellunka_share(trace.as_ptr(), trace.len()) }
 }
 
 pub fn normalise(tables: &[u8], out: &mut [u8]) -> Normalised {

@@ -1,9 +1,10 @@
 //! A proved checker for OpenFlow rehearsals.
 //!
 //! Switches and controller record their events as a trace. [`list_races`] lists the pairs of events on one
-//! switch whose order was open and matters, [`page`] writes that list for paper, [`normalise`] brings the text of
-//! flow tables into a normal form, [`replay`] tells what an order of the events does to given tables, and
-//! [`try_orders`] which of many orders do what the recorded one does.
+//! switch whose order was open and matters, [`page`] writes that list for paper, [`share`] tells how many thousandths
+//! of the pairs whose order was open commute, [`normalise`] brings the text of flow tables into a normal form,
+//! [`replay`] tells what an order of the events does to given tables, and [`try_orders`] which of many orders do what
+//! the recorded one does.
 //!
 //! The work is done by a static library whose source (`crates/exports` of the repository) is proved against
 //! definitions of the specification, document 01 (`docs/SPECIFICATION.md`). What is said below of results,
@@ -38,6 +39,9 @@
 //!     format!("{:<9}{:>51}\n", "listed", 1),
 //! ];
 //! assert_eq!(page[..length], *lines.concat().as_bytes());
+//!
+//! // One pair's order was open, and it doesn't commute.
+//! assert_eq!(gellunka::share(trace)?, gellunka::Share { quotient: 0, remainder: 0, divisor: 1 });
 //!
 //! // The recorded order, the two rules exchanged, the packet before its rule, a rule before what sent it.
 //! let orders = [[0, 1, 2, 3, 4], [0, 1, 3, 2, 4], [0, 1, 2, 4, 3], [0, 2, 1, 3, 4]];
@@ -87,6 +91,17 @@ impl Counts {
     pub fn pairs_in(self, list: &[u8]) -> impl Iterator<Item = (u8, u8)> + '_ {
         list.chunks_exact(2).take(self.listed).map(|pair| (pair[0], pair[1]))
     }
+}
+
+/// 1000 times the pairs that commute, divided by all pairs that are not ordered.
+#[derive(Clone, Copy, Debug, Default, PartialEq, Eq, Hash)]
+pub struct Share {
+    /// How often the divisor goes into `1000 * commuting`.
+    pub quotient: usize,
+    /// What remains of `1000 * commuting`.
+    pub remainder: usize,
+    /// The pairs that are not ordered, `commuting + listed`.
+    pub divisor: usize,
 }
 
 /// How many bytes [`replay`] wrote to each of its buffers.
@@ -155,6 +170,22 @@ pub fn page<'a>(trace: &'a [u8], out: &mut [u8]) -> Result<usize, Refusal<'a>> {
     let answer = ffi::page(trace, out);
     answer.refused.check(trace, b"")?;
     Ok(answer.length)
+}
+
+/// Tells how many of a trace's pairs that are not ordered commute, in thousandths and with what remains.
+///
+/// With the [`Counts`] of the same trace, `divisor` is `commuting + listed`, which is `pairs - ordered`;
+/// `quotient * divisor + remainder` is `1000 * commuting`; and `remainder` is below `divisor`, where that is not 0. The
+/// divisor is 0 exactly if all pairs are ordered or there is none, and then all three numbers are 0.
+///
+/// # Errors
+///
+/// Refuses by 1 to 8.
+pub fn share(trace: &[u8]) -> Result<Share, Refusal<'_>> {
+    let answer = ffi::share(trace);
+    answer.refused.check(trace, b"")?;
+    let ffi::Shared { quotient, remainder, divisor, .. } = answer;
+    Ok(Share { quotient, remainder, divisor })
 }
 
 /// Brings a table text into its normal form, switches rising and then table order, and gives its length.

@@ -29,6 +29,12 @@ static const char BAD[] = "sw=1\nsw=2\n";
     "ev=1 do=bar in=- out=- sw=1\n"                                                                                     \
     "ev=2 do=" word " in=- out=- sw=1 port=1 vlan=1 src=0a000001 dst=0a000002 proto=6 sport=4000 dport=80\n"
 
+/* Rules of switch 1 that nothing orders, two of one key and one of another. */
+static const char RULES[] =
+    "ev=0 do=add in=- out=- sw=1 prio=10 port=* vlan=* src=00000000/0 dst=0a000002/32 proto=* sport=* dport=* act=p2\n"
+    "ev=1 do=add in=- out=- sw=1 prio=10 port=* vlan=* src=00000000/0 dst=0a000002/32 proto=* sport=* dport=* act=p3\n"
+    "ev=2 do=add in=- out=- sw=1 prio=10 port=* vlan=* src=00000000/0 dst=0a000003/32 proto=* sport=* dport=* act=p4\n";
+
 static int failures = 0;
 
 static void expect(int holds, const char *what) {
@@ -90,6 +96,30 @@ static void page(void) {
     expect(all_are(out + needed, sizeof out - needed, 9), "the bytes past the page");
 }
 
+static int is_share(struct gellunka_shared a, size_t quotient, size_t remainder, size_t divisor) {
+    return a.quotient == quotient && a.remainder == remainder && a.divisor == divisor;
+}
+
+static void share(void) {
+    uint8_t out[2];
+    struct gellunka_listed counts = gellunka_list_races(bytes(RULES), strlen(RULES), out, 2);
+    struct gellunka_shared a = gellunka_share(bytes(RULES), strlen(RULES));
+    expect(a.refused.number == 0 && a.refused.place == 0 && a.refused.start == 0 && a.refused.length == 0,
+           "the rules are accepted");
+    expect(is_share(a, 666, 2, 3), "two of three pairs commute");
+    expect(a.divisor == counts.commuting + counts.listed && a.divisor == counts.pairs - counts.ordered, "the divisor");
+    expect(a.quotient * a.divisor + a.remainder == 1000 * counts.commuting, "the product comes back");
+    a = gellunka_share(bytes(TRACE), strlen(TRACE));
+    expect(a.refused.number == 0 && is_share(a, 0, 0, 1), "no pair commutes");
+    a = gellunka_share(bytes(""), 0);
+    expect(a.refused.number == 0 && is_share(a, 0, 0, 0), "no pair");
+    a = gellunka_share(bytes(RULES), strlen(RULES) - 1);
+    expect(a.refused.number == 2 && a.refused.place == 0 && is_share(a, 0, 0, 0), "a trace whose last byte is not LF");
+    a = gellunka_share(bytes(BAD), strlen(BAD));
+    expect(a.refused.number == 4 && a.refused.start == 0 && a.refused.length == 4 && is_share(a, 0, 0, 0),
+           "a malformed trace");
+}
+
 static void normalise(void) {
     uint8_t out[256];
     struct gellunka_normalised a = gellunka_normalise(bytes(TABLES), strlen(TABLES), out, sizeof out);
@@ -142,6 +172,7 @@ int main(void) {
     list();
     packets();
     page();
+    share();
     normalise();
     replay();
     try_orders();

@@ -16,6 +16,7 @@ pub fn compare(row: &Row) {
     let call = match row.input {
         Input::List(_) => "list",
         Input::Page(_) => "page",
+        Input::Share(_) => "share",
         Input::Normalise(_) => "normalise",
         Input::Replay(..) => "replay",
         Input::Orders(..) => "orders",
@@ -29,6 +30,7 @@ pub fn sides(input: &Input) -> [Call<'_>; 2] {
     match input {
         Input::List(trace) => one_text(trace, 65_280, gellunka::list_races, reference::list),
         Input::Page(trace) => one_text(trace, reference::PAGE_ROOM, gellunka::page, reference::page),
+        Input::Share(trace) => share(trace),
         Input::Normalise(tables) => one_text(tables, 65_535, gellunka::normalise, reference::normalise),
         Input::Replay(trace, tables) => replay(trace, tables),
         Input::Orders(trace, tables, orders) => try_orders(trace, tables, orders),
@@ -46,6 +48,13 @@ fn one_text<'a, T: 'a, U: 'a>(
     [
         Box::new(move || used(proved(black_box(input), &mut ours))),
         Box::new(move || used(peer(black_box(input), &mut theirs))),
+    ]
+}
+
+fn share(trace: &[u8]) -> [Call<'_>; 2] {
+    [
+        Box::new(move || used(gellunka::share(black_box(trace)))),
+        Box::new(move || used(reference::share(black_box(trace)))),
     ]
 }
 

@@ -30,6 +30,7 @@ impl Processes {
         match &row.input {
             Input::List(trace) => self.by_turns("racelist", "list", row, &[trace]),
             Input::Page(trace) => self.by_turns("racepage", "page", row, &[trace]),
+            Input::Share(trace) => self.by_turns("raceshare", "share", row, &[trace]),
             Input::Normalise(tables) => self.by_turns("normalise", "normalise", row, &[tables]),
             Input::Replay(trace, tables) => self.by_turns("replay_trace", "replay", row, &[trace, tables]),
             Input::Orders(trace, tables, orders) => {

@@ -20,6 +20,8 @@ pub enum Input {
     List(Vec<u8>),
     /// `page` of a trace.
     Page(Vec<u8>),
+    /// `share` of a trace.
+    Share(Vec<u8>),
     /// `normalise` of a table text.
     Normalise(Vec<u8>),
     /// `replay` of a trace from a table text, in the recorded order.
@@ -43,6 +45,7 @@ impl Input {
 pub fn rows() -> Vec<Row> {
     let list = |name, trace| Row { name, input: Input::List(trace) };
     let page = |name, trace| Row { name, input: Input::Page(trace) };
+    let share = |name, trace| Row { name, input: Input::Share(trace) };
     let normalise = |name, tables| Row { name, input: Input::Normalise(tables) };
     let replay = |name, trace| Row { name, input: Input::Replay(trace, tables::reversed()) };
     vec![
@@ -72,6 +75,10 @@ pub fn rows() -> Vec<Row> {
         mixed("1,000 orders of 256 mixed events, 4 switches, onto 64 entries", 4, 64, 1_000),
         mixed("100 orders of the same", 4, 64, 100),
         mixed("1,000 orders of 256 mixed events, 1 switch, onto 256 entries", 1, 256, 1_000),
+        share("empty input (floor)", Vec::new()),
+        share("256 adds of one key: 32,640 pairs listed", traces::all_racing()),
+        share("256 adds, different keys: 32,640 pairs commute", traces::long_adds()),
+        share("256 mixed events, 1 switch", trace_text(&traces::mixed(1))),
     ]
 }
 

@@ -16,8 +16,8 @@ use reference::replay::recorded_order;
 use reference::table::Origin::{Received, SentOut};
 use reference::trace::Event;
 use reference::{
-    happens_before, list, normal_text, normalise, page, read_tables, read_trace, replay, try_orders, Counts,
-    Refusal, PAGE_ROOM,
+    happens_before, list, normal_text, normalise, page, read_tables, read_trace, replay, share, try_orders,
+    Counts, Refusal, Share, PAGE_ROOM,
 };
 use std::collections::{BTreeMap, BTreeSet};
 
@@ -107,7 +107,9 @@ fn every_refusal_is_reached() {
         let length = random.below(12);
         let trace = trace_text(&any_trace(&mut random, world, length));
         let tables = tables_text(&any_tables(&mut random, world, length));
-        note(read_trace(&damaged(&mut random, &trace)).map(drop));
+        let fault = damaged(&mut random, &trace);
+        assert_eq!(share(&fault).err(), read_trace(&fault).err());
+        note(read_trace(&fault).map(drop));
         note(read_tables(&damaged(&mut random, &tables)).map(drop));
         let order = any_damaged(&mut random, &recorded_order(length));
         let mut room = |most| vec![0; random.below(most)];
@@ -279,6 +281,28 @@ fn packets_sent_out_as_received() {
     assert!(more > 100, "{more} lists are longer");
 }
 
+/// A share gives 1000 times commuting back, and what remains is below the divisor. Often something remains, and often no
+/// pair is unordered.
+#[test]
+fn shares_of_counts() {
+    let mut random = Random::from_seed(10);
+    let [mut uneven, mut none] = [0; 2];
+    for _ in 0..1_000 {
+        let world = World::any(&mut random);
+        let length = any_length(&mut random);
+        let events = any_trace(&mut random, world, length);
+        let (counts, _) = racing_pairs(&events, &happens_before(&events));
+        let Share { quotient, remainder, divisor } = share(&trace_text(&events)).expect("a valid trace");
+        assert_eq!(divisor, counts.commuting + counts.listed);
+        assert_eq!(divisor, counts.pairs - counts.ordered);
+        assert_eq!(quotient * divisor + remainder, 1000 * counts.commuting);
+        assert!(remainder < divisor || [quotient, remainder, divisor] == [0; 3]);
+        uneven += usize::from(remainder > 0);
+        none += usize::from(divisor == 0);
+    }
+    assert!(uneven > 200 && none > 200, "{uneven} {none}");
+}
+
 #[test]
 fn worst_cases() {
     let mut room = vec![0; 65_280];
@@ -287,8 +311,10 @@ fn worst_cases() {
     let racing = Counts { pairs: all, ordered: 0, commuting: 0, listed: all };
     assert_eq!(counts(&traces::all_racing()), racing);
     assert_eq!(page(&traces::all_racing(), &mut vec![0; PAGE_ROOM]), Ok(PAGE_ROOM));
+    assert_eq!(share(&traces::all_racing()), Ok(Share { quotient: 0, remainder: 0, divisor: all }));
     assert_eq!(counts(&traces::all_racing_modifies()), racing);
     assert_eq!(counts(&traces::token_chain()), Counts { ordered: all, listed: 0, ..racing });
+    assert_eq!(share(&traces::token_chain()), Ok(Share::default()));
     let half = 128 * 127 / 2;
     for trace in [traces::barriers(), traces::barriers_and_packets()] {
         assert_eq!(counts(&trace), Counts { pairs: half, ordered: half, commuting: 0, listed: 0 });
@@ -298,6 +324,7 @@ fn worst_cases() {
     let [received, sent_out] = [Received, SentOut].map(traces::packets_to_the_last);
     for trace in [traces::long_adds(), traces::long_checked_adds(), received, sent_out] {
         assert_eq!(counts(&trace), commuting);
+        assert_eq!(share(&trace), Ok(Share { quotient: 1000, remainder: 0, divisor: all }));
     }
     assert_eq!(normal_of(&tables::reversed()), tables::sorted());
 }

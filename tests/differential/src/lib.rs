@@ -5,6 +5,7 @@
 //! back. Where they differ it panics and prints the input.
 
 use gellunka::Trial;
+use reference::{Counts, Share};
 use std::fmt::Debug;
 use std::ops::Range;
 use std::path::{Path, PathBuf};
@@ -66,7 +67,7 @@ pub struct Refused {
 pub type Answer<T> = Result<T, Refused>;
 
 /// The list call of both on a trace and a buffer of so many bytes.
-pub fn list(trace: &[u8], room: usize) -> Answer<(reference::Counts, Vec<u8>)> {
+pub fn list(trace: &[u8], room: usize) -> Answer<(Counts, Vec<u8>)> {
     let (mut ours, mut theirs) = (Buffer::new(room), Buffer::new(room));
     let proved = gellunka::list_races(trace, ours.bytes())
         .map(|c| (c.pairs, c.ordered, c.commuting, c.listed))
@@ -85,6 +86,27 @@ pub fn list(trace: &[u8], room: usize) -> Answer<(reference::Counts, Vec<u8>)> {
 /// The page call of both on a trace and a buffer of so many bytes: the page.
 pub fn page(trace: &[u8], room: usize) -> Answer<Vec<u8>> {
     written("page call", trace, room, gellunka::page, reference::page)
+}
+
+/// The share call of both on a trace.
+pub fn share(trace: &[u8]) -> Answer<Share> {
+    let proved = gellunka::share(trace)
+        .map(|s| Share { quotient: s.quotient, remainder: s.remainder, divisor: s.divisor })
+        .map_err(|r| from_library(&r, trace, b""));
+    let expected = reference::share(trace).map_err(|r| from_reference(&r, trace, b""));
+    same(&proved, &expected, || format!("share call\n{}", text("trace", trace)));
+    expected
+}
+
+/// Of a valid trace with these counts both give the share that belongs to them.
+pub fn assert_share(trace: &[u8], counts: Counts) {
+    let share = share(trace).expect("a valid trace");
+    let Share { quotient, remainder, divisor } = share;
+    let holds = divisor == counts.commuting + counts.listed
+        && divisor == counts.pairs - counts.ordered
+        && quotient * divisor + remainder == 1000 * counts.commuting
+        && (remainder < divisor || share == Share::default());
+    assert!(holds, "{share:?} of {counts:?}\n{}", text("trace", trace));
 }
 
 /// The normaliser of both on a table text and a buffer of so many bytes: the normal text.

@@ -7,7 +7,7 @@ use cases::print::{tables_text, trace_text};
 use cases::tables::any_tables;
 use cases::traces::{all_received, any_length, any_trace};
 use cases::{lengths_around, Random, World};
-use differential::{list, normalise, page, replay, try_orders, Answer};
+use differential::{assert_share, list, normalise, page, replay, share, try_orders, Answer};
 use reference::races::racing_pairs;
 use reference::replay::recorded_order;
 use reference::{happens_before, Counts};
@@ -36,10 +36,11 @@ impl Met {
     }
 }
 
-/// The counts and the list of a valid trace.
+/// The counts and the list of a valid trace, whose share is that of the counts.
 fn listed(trace: &[u8]) -> (Counts, Vec<u8>) {
     let (counts, mut pairs) = list(trace, LIST_ROOM).expect("a valid trace");
     pairs.truncate(2 * counts.listed);
+    assert_share(trace, counts);
     (counts, pairs)
 }
 
@@ -73,7 +74,7 @@ fn words_in(trace: &[u8]) -> Vec<&str> {
 }
 
 #[test]
-fn lists_and_pages_of_valid_traces() {
+fn lists_pages_and_shares_of_valid_traces() {
     let mut random = Random::from_seed(101);
     let mut met: BTreeSet<String> = BTreeSet::new();
     for _ in 0..1_000 {
@@ -101,15 +102,18 @@ fn lists_and_pages_of_valid_traces() {
 }
 
 #[test]
-fn lists_and_pages_of_damaged_traces() {
+fn lists_pages_and_shares_of_damaged_traces() {
     let mut random = Random::from_seed(102);
-    let [mut met, mut met_by_page] = [(); 2].map(|()| Met::default());
+    let [mut met, mut met_by_page, mut met_by_share] = [(); 3].map(|()| Met::default());
     for _ in 0..10_000 {
         let world = World::any(&mut random);
         let length = if random.one_in(20) { any_length(&mut random) } else { random.below(8) };
         let trace = trace_text(&any_trace(&mut random, world, length));
         let fault = damaged(&mut random, &trace);
-        met.note(&list(&fault, LIST_ROOM));
+        let (listed, shared) = (list(&fault, LIST_ROOM), share(&fault));
+        met.note(&listed);
+        met_by_share.note(&shared);
+        assert_eq!(shared.err(), listed.err());
         met_by_page.note(&page(&fault, SHORT_PAGE));
         let room = random.below(4);
         let fault = damaged(&mut random, &trace);
@@ -120,6 +124,7 @@ fn lists_and_pages_of_damaged_traces() {
     }
     met.assert_all(&[0, 1, 2, 3, 4, 5, 6, 7, 8, 31], 50);
     met_by_page.assert_all(&[0, 1, 2, 3, 4, 5, 6, 7, 8, 51], 50);
+    met_by_share.assert_all(&[0, 1, 2, 3, 4, 5, 6, 7, 8], 50);
 }
 
 /// With `pkt` for each `pout` there are as many pairs, all that were listed are, and the recorded order leaves the same

@@ -3,7 +3,7 @@
 
 use cases::{tables, traces};
 use differential::{program, Folder};
-use reference::output::{normalised, racelist, racepage, replayed, tried};
+use reference::output::{normalised, racelist, racepage, raceshare, replayed, tried};
 use reference::replay::recorded_order;
 use std::fs::File;
 use std::io::Write;
@@ -25,7 +25,7 @@ fn says(output: &Output, begins: &str) {
 }
 
 /// The programs that read standard input.
-const READING: [&str; 3] = ["racelist", "racepage", "normalise"];
+const READING: [&str; 4] = ["racelist", "racepage", "raceshare", "normalise"];
 
 /// The programs that read files. The third may be left out of the first's.
 const OF_FILES: [&str; 2] = ["replay_trace", "replay_orders"];
@@ -138,7 +138,8 @@ fn too_many_orders_are_said() {
 fn missing_and_surplus_arguments_are_said() {
     for name in READING {
         let output = run(program(name).arg("trace"), Stdio::null(), Stdio::piped());
-        says(&output, &format!("usage: {name} < "));
+        let input = if name == "normalise" { "TABLES" } else { "TRACE" };
+        says(&output, &format!("usage: {name} < {input}\n"));
     }
     for count in [0, 1, 4, 5] {
         let output = program("replay_trace").args(vec!["x"; count]).output().expect("the program ends");
@@ -165,6 +166,7 @@ fn an_input_may_come_in_parts() {
     for (name, input, expected) in [
         ("racelist", &trace, racelist(&trace)),
         ("racepage", &trace, racepage(&trace)),
+        ("raceshare", &trace, raceshare(&trace)),
         ("normalise", &tables, normalised(&tables)),
     ] {
         let mut running =

@@ -1,7 +1,7 @@
 //! Texts at the limits, and the worst cases.
 
 use cases::{lengths_around, tables, traces};
-use differential::{list, normalise, page, replay, try_orders};
+use differential::{assert_share, list, normalise, page, replay, share, try_orders};
 use reference::replay::recorded_order;
 use reference::table::Origin;
 use std::collections::BTreeSet;
@@ -20,6 +20,7 @@ fn bytes_and_lines() {
                 text[length - 1] = last;
                 let _ = list(&text, 0);
                 let _ = page(&text, 0);
+                let _ = share(&text);
                 let _ = normalise(&text, 0);
                 let _ = replay(&text, &text, &[], [0, 0]);
                 let _ = replay(b"", &text, &[], [0, 0]);
@@ -33,6 +34,8 @@ fn bytes_and_lines() {
     assert_eq!(refused(list(oth(257).as_bytes(), 0)), (3, 0));
     assert_eq!(refused(page(oth(256).as_bytes(), 243)), (51, 244));
     assert_eq!(refused(page(oth(257).as_bytes(), 243)), (3, 0));
+    assert!(share(oth(256).as_bytes()).is_ok());
+    assert_eq!(refused(share(oth(257).as_bytes())), (3, 0));
     assert_eq!(refused(try_orders(oth(256).as_bytes(), b"", &[0; 257], 0)), (52, 0));
     assert_eq!(refused(try_orders(oth(257).as_bytes(), b"", &[0; 256], 0)), (3, 0));
     // The longest accepted lines, and a line that fills the text up to its last byte.
@@ -40,6 +43,7 @@ fn bytes_and_lines() {
     text.resize(65_534, b'0');
     text.push(b'\n');
     assert_eq!(refused(list(&text, 0)), (4, 255));
+    assert_eq!(refused(share(&text)), (4, 255));
     let mut text = tables::reversed();
     text.truncate(text.iter().rposition(|&b| b == b' ').expect("a space"));
     text.resize(65_534, b'1');
@@ -53,6 +57,7 @@ fn single_bytes_and_pairs_of_bytes() {
         for text in [&[a][..], &[a, b'\n']] {
             let _ = list(text, 8);
             let _ = page(text, 8);
+            let _ = share(text);
             let _ = normalise(text, 8);
             let _ = replay(text, b"", text, [8, 8]);
             let _ = replay(b"", text, b"", [8, 8]);
@@ -96,6 +101,7 @@ fn every_word_in_every_kind_of_line() {
         let is_accepted = |word: &str| {
             let text = format!("ev=0 do={word} {rest}\n");
             let _ = page(text.as_bytes(), 244);
+            let _ = share(text.as_bytes());
             list(text.as_bytes(), 0).is_ok()
         };
         accepted += words.iter().filter(|word| is_accepted(word)).count();
@@ -116,6 +122,7 @@ fn every_byte_of_every_kind_of_line() {
         each_change(&text, |changed| {
             let _ = list(changed, 0);
             let _ = page(changed, 244);
+            let _ = share(changed);
         });
     }
     let text = format!("sw=1 prio=10 {MATCHING} act=p2\n").into_bytes();
@@ -153,6 +160,7 @@ fn worst_cases() {
     ];
     for trace in &traces {
         let (counts, _) = list(trace, 65_280).expect("a valid trace");
+        assert_share(trace, counts);
         for room in lengths_around(2 * counts.listed) {
             let _ = list(trace, room);
         }

@@ -8,7 +8,7 @@ use cases::traces::{any_length, any_trace};
 use cases::{tables, traces, Random, World};
 use differential::{program, Folder};
 use reference::happens_before;
-use reference::output::{normalised, racelist, racepage, replayed, tried};
+use reference::output::{normalised, racelist, racepage, raceshare, replayed, tried};
 use reference::replay::recorded_order;
 use reference::table::Origin;
 use std::io::Write;
@@ -34,13 +34,16 @@ fn check(name: &str, input: &[u8], printed: &[u8], expected: &[u8]) {
 }
 
 #[test]
-fn lists_and_pages() {
+fn lists_pages_and_shares() {
     let mut random = Random::from_seed(201);
     let check = |trace: &[u8]| {
         check("racelist", trace, &printed("racelist", trace), &racelist(trace));
         check("racepage", trace, &printed("racepage", trace), &racepage(trace));
+        check("raceshare", trace, &printed("raceshare", trace), &raceshare(trace));
     };
-    for trace in [traces::all_racing(), traces::token_chain(), traces::barriers(), Vec::new()] {
+    for trace in
+        [traces::all_racing(), traces::long_adds(), traces::token_chain(), traces::barriers(), Vec::new()]
+    {
         check(&trace);
     }
     for _ in 0..300 {

@@ -12,6 +12,7 @@
 //! | [`causality`] | Happens-before |
 //! | [`races`] | The list |
 //! | [`page`](mod@page) | The page |
+//! | [`share`](mod@share) | The share |
 //! | [`tables`] | Tables: table texts and their normal form |
 //! | [`replay`](mod@replay) | Replay, and what an order of events does |
 //! | [`orders`] | Many orders in one call |
@@ -23,8 +24,8 @@
 //! (`write`), what precedes an event is looked up. What the fast forms mean stays beside them, and tests hold one
 //! against the other.
 //!
-//! The five calls write into buffers that the caller lends, as the proved ones do:
-//! [`list`], [`page()`], [`normalise`], [`replay()`] and [`try_orders`].
+//! Five of the calls write into buffers that the caller lends, as the proved ones do:
+//! [`list`], [`page()`], [`normalise`], [`replay()`] and [`try_orders`]. [`share()`] writes nothing.
 
 pub mod causality;
 pub mod commute;
@@ -35,6 +36,7 @@ pub mod page;
 pub mod races;
 pub mod refusal;
 pub mod replay;
+pub mod share;
 pub mod table;
 pub mod tables;
 pub mod trace;
@@ -50,5 +52,6 @@ pub use page::{page, PAGE_ROOM};
 pub use races::{list, Counts};
 pub use refusal::Refusal;
 pub use replay::{replay, Lengths};
+pub use share::{share, Share};
 pub use tables::{normal_text, normalise, read_tables};
 pub use trace::read_trace;

@@ -3,17 +3,18 @@
 //! ```text
 //! reference list < TRACE
 //! reference page < TRACE
+//! reference share < TRACE
 //! reference normalise < TABLES
 //! reference replay TRACE TABLES [ORDER]
 //! reference orders TRACE TABLES ORDERS
 //! ```
 
-use reference::output::{normalised, racelist, racepage, replayed, tried};
+use reference::output::{normalised, racelist, racepage, raceshare, replayed, tried};
 use std::io::{self, Read, Write};
 use std::process::ExitCode;
 
 const USE: &str =
-    "use: reference list | page | normalise | replay TRACE TABLES [ORDER] | orders TRACE TABLES ORDERS";
+    "use: reference list | page | share | normalise | replay TRACE TABLES [ORDER] | orders TRACE TABLES ORDERS";
 
 fn main() -> ExitCode {
     let arguments: Vec<String> = std::env::args().skip(1).collect();
@@ -21,6 +22,7 @@ fn main() -> ExitCode {
     let output = match arguments[..] {
         ["list"] => standard_input().map(|trace| racelist(&trace)),
         ["page"] => standard_input().map(|trace| racepage(&trace)),
+        ["share"] => standard_input().map(|trace| raceshare(&trace)),
         ["normalise"] => standard_input().map(|tables| normalised(&tables)),
         ["replay", trace, tables] => replay_files(trace, tables, None),
         ["replay", trace, tables, order] => replay_files(trace, tables, Some(order)),

@@ -5,6 +5,7 @@ use crate::page::{page, PAGE_ROOM};
 use crate::races::races;
 use crate::refusal::Refusal;
 use crate::replay::{outcome, put_answers};
+use crate::share::{share, Share};
 use crate::tables::{normal_text, normalise};
 use crate::write;
 use crate::Counts;
@@ -68,6 +69,16 @@ impl<const N: usize> Piece<N> {
 /// `racepage` of a trace: the page, or the refusal.
 pub fn racepage(trace: &[u8]) -> Vec<u8> {
     written(PAGE_ROOM, |room| page(trace, room))
+}
+
+/// `raceshare` of a trace: the share on one line, or the refusal.
+pub fn raceshare(trace: &[u8]) -> Vec<u8> {
+    match share(trace) {
+        Ok(Share { quotient, remainder, divisor }) => {
+            format!("share={quotient} remainder={remainder} divisor={divisor}\n").into_bytes()
+        }
+        Err(refusal) => refused(&refusal),
+    }
 }
 
 /// `normalise` of a table text: the normal text, or the refusal.

@@ -5,8 +5,8 @@ use reference::replay::{check_order, recorded_order};
 use reference::table::{Origin, TableOperation};
 use reference::trace::Operation;
 use reference::{
-    happens_before, list, normalise, page, read_tables, read_trace, replay, try_orders, Counts, Lengths,
-    PAGE_ROOM,
+    happens_before, list, normalise, page, read_tables, read_trace, replay, share, try_orders, Counts,
+    Lengths, Share, PAGE_ROOM,
 };
 
 const WORKED: &str = "\
@@ -174,6 +174,59 @@ fn counts_on_a_page() {
     assert!(page.starts_with("  0   1 15 addc addc 65535 65535  "));
     assert!(page.ends_with(&pinned(&["254 255 15 addc addc 65535 65535"], [32_640, 0, 0, 32_640])));
     assert!(page.lines().all(|line| line.len() == 60));
+}
+
+/// The share of an accepted trace, with the counts that it comes from.
+fn share_of(trace: &str) -> ([usize; 4], Share) {
+    let counts = list(trace.as_bytes(), &mut vec![0; 65_280]).unwrap();
+    let Counts { pairs, ordered, commuting, listed } = counts;
+    ([pairs, ordered, commuting, listed], share(trace.as_bytes()).unwrap())
+}
+
+fn shared(quotient: usize, remainder: usize, divisor: usize) -> Share {
+    Share { quotient, remainder, divisor }
+}
+
+#[test]
+fn the_share_of_the_worked_lines() {
+    assert_eq!(share_of(WORKED), ([2, 1, 0, 1], shared(0, 0, 1)));
+}
+
+#[test]
+fn shares() {
+    let add = |priority: u16, port: u8| ("add", format!("sw=1 prio={priority} {ANY} act=p{port}"));
+    let bar = || ("bar", "sw=1".to_owned());
+    let share_of = |lines: &[(&str, String)]| share_of(&plain_trace(lines));
+    // No pair; one that a barrier orders.
+    assert_eq!(share_of(&[]), ([0; 4], Share::default()));
+    assert_eq!(share_of(&[("oth", String::new()), add(1, 1), bar()]), ([0; 4], Share::default()));
+    assert_eq!(share_of(&[add(1, 1), bar(), add(1, 2)]), ([1, 1, 0, 0], Share::default()));
+    // All commute; none does.
+    assert_eq!(share_of(&[add(1, 1), add(2, 1), add(3, 1)]), ([3, 0, 3, 0], shared(1000, 0, 3)));
+    assert_eq!(share_of(&[add(1, 1), add(1, 2), add(1, 3)]), ([3, 0, 0, 3], shared(0, 0, 3)));
+    // 2 of 3 do; 3 packets beside one rule and behind it another, which a barrier orders.
+    assert_eq!(share_of(&[add(1, 1), add(1, 2), add(2, 3)]), ([3, 0, 2, 1], shared(666, 2, 3)));
+    let packet = || ("pkt", format!("sw=1 {PACKET}"));
+    let lines = [packet(), packet(), packet(), add(1, 1), bar(), add(1, 1)];
+    assert_eq!(share_of(&lines), ([10, 1, 3, 6], shared(333, 3, 9)));
+    // Of 32,640 pairs all but 128 commute, or a single one does.
+    let twice: Vec<_> = (0..128).flat_map(|key| [add(key, 1), add(key, 2)]).collect();
+    assert_eq!(share_of(&twice), ([32_640, 0, 32_512, 128], shared(996, 2_560, 32_640)));
+    let equal: Vec<_> = [1].into_iter().chain(1..=255).map(|port| add(1, port)).collect();
+    assert_eq!(share_of(&equal), ([32_640, 0, 1, 32_639], shared(0, 1000, 32_640)));
+}
+
+#[test]
+fn a_share_is_refused_as_the_list_is() {
+    let refusal = |trace: &str| {
+        let refused = share(trace.as_bytes()).unwrap_err();
+        assert_eq!(list(trace.as_bytes(), &mut [0; 65_280]), Err(refused));
+        (refused.number, refused.place, String::from_utf8(refused.line.to_vec()).unwrap())
+    };
+    assert_eq!(refusal(&"\n".repeat(65_536)), (1, 0, String::new()));
+    assert_eq!(refusal(WORKED.trim_end()), (2, 0, String::new()));
+    let line = "ev=7 do=oth in=- out=-";
+    assert_eq!(refusal(&format!("{WORKED}{line}\n")), (5, 5, line.to_owned()));
 }
 
 /// As many ones as the length, then zeros.

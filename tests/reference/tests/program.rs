@@ -34,6 +34,18 @@ fn page() {
 }
 
 #[test]
+fn share() {
+    assert_eq!(printed(&["share"], b""), "share=0 remainder=0 divisor=0\n");
+    let any = "port=* vlan=* src=00000000/0 dst=00000000/0 proto=* sport=* dport=*";
+    let rule =
+        |event, prio, port| format!("ev={event} do=add in=- out=- sw=1 prio={prio} {any} act=p{port}\n");
+    let rules = [rule(0, 1, 1), rule(1, 1, 2), rule(2, 9, 3)].concat();
+    assert_eq!(printed(&["share"], rules.as_bytes()), "share=666 remainder=2 divisor=3\n");
+    assert_eq!(printed(&["share"], b"ev=0\n"), "refused=4 place=0\nev=0\n");
+    assert_eq!(printed(&["share"], b"x"), "refused=2 place=0\n");
+}
+
+#[test]
 fn normalise() {
     assert_eq!(printed(&["normalise"], b""), "");
     assert_eq!(printed(&["normalise"], b"x"), "refused=12 place=0\n");

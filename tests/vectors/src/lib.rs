@@ -16,7 +16,7 @@ pub mod tree;
 
 use cases::orders::{all_orders, is_allowed};
 use notation::{Case, Kind, Reader};
-use reference::output::{normalised, racelist, racepage, replayed, tried};
+use reference::output::{normalised, racelist, racepage, raceshare, replayed, tried};
 use reference::replay::recorded_order;
 use reference::{happens_before, read_trace};
 use std::path::Path;
@@ -30,6 +30,7 @@ pub struct Vectors {
     replay_test: Vec<Case>,
     replay_trace: Vec<Case>,
     replay_orders: Vec<Case>,
+    raceshare: Vec<Case>,
     flow_test: flow::Vectors,
     commuting_test: commuting::Vectors,
 }
@@ -60,6 +61,7 @@ impl Vectors {
             replay_test: cases("replay_test", 0)?,
             replay_trace: cases("replay_trace", 0)?,
             replay_orders: cases("replay_orders", 0)?,
+            raceshare: cases("raceshare", 0)?,
             flow_test: flow::Vectors::read(&flow_path, &flow_text)?,
             commuting_test: commuting::Vectors::read(reader(0)?, &pairs_path, &pairs_text)?,
         })
@@ -92,6 +94,9 @@ impl Vectors {
             files.push(stored(crate_name, "stdout", output));
             files.push(stored(crate_name, "stdin", trace.clone()));
         }
+        let trace = text_of(&self.raceshare, "stdin");
+        files.push(stored("raceshare", "stdout", raceshare(&trace)));
+        files.push(stored("raceshare", "stdin", trace));
         let tables = text_of(&self.tables_test, "hall_typed_anew");
         files.push(stored("normalise", "stdout", normalised(&tables)));
         files.push(stored("normalise", "stdin", tables));
@@ -100,7 +105,7 @@ impl Vectors {
             files.extend(named.map(|case| example(crate_name, case)));
         }
         let rehearsals = self.list_test.iter().filter(|case| case.kind == Kind::Named);
-        files.extend(rehearsals.map(example_page));
+        files.extend(rehearsals.flat_map(|case| [example_page(case), example_share(case)]));
         for name in ["packet_early", "packet_early_repaired"] {
             files.extend(example_orders(name, &text_of(&self.list_test, name)));
         }
@@ -174,6 +179,13 @@ fn example_page(case: &Case) -> File {
     let title = format!("the page of {}", case.name);
     let path = format!("examples/{}.page", case.name);
     File { path, title, content: Content::Bytes(racepage(&case.bytes())) }
+}
+
+/// The share of a trace among the examples.
+fn example_share(case: &Case) -> File {
+    let title = format!("the share of {}", case.name);
+    let path = format!("examples/{}.share", case.name);
+    File { path, title, content: Content::Bytes(raceshare(&case.bytes())) }
 }
 
 /// All orders of an example's trace that keep happens-before, rising, and then the recorded one reversed; and what they

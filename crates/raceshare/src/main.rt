@@ -1,0 +1,33 @@
+// Reads a trace from standard input, and writes how many of its unordered pairs commute, or what is refused, to standard output.
+use call_answers::ShareAnswer;
+use libc::STDERR_FILENO;
+use libc::STDIN_FILENO;
+
+fn answer(trace: &[u8]) {
+    let a = share_call::share(trace);
+    match a {
+        ShareAnswer::Share(x) => {
+            let mut out = [0u8; 109];
+            let n = share_report::put_share(&mut out, x);
+            program_output::write(text_lines::front(&out, n));
+        }
+        ShareAnswer::Refused(e) => {
+            program_output::write_refused(trace, b"", e);
+        }
+    }
+}
+
+fn main() {
+    if 1 < os::arg_count() {
+        io::write_all(STDERR_FILENO, b"usage: raceshare < TRACE\n");
+        return;
+    }
+    let mut buf = io::large_buffer();
+    let input = program_input::read_all(STDIN_FILENO, &mut buf);
+    if !input.ok {
+        os::fail(b"standard input");
+        return;
+    }
+    let n = input.len;
+    answer(&buf[..n]);
+}

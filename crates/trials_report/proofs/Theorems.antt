@@ -6,34 +6,12 @@ use mathlib.Core.Path.{_≡_, refl, sym, ap, ap₂, _∙_}
 use mathlib.Core.List.{List, [], _∷_, _++_, append-assoc, append-cancel-left, tail-eq-of-cons-eq}
 use lib.ListN.{length, getD}
 use Rattle.basics.specs.Text.{bytes}
-use Rattle.text_numbers.specs.Print.{printNumber}
-use Rattle.text_numbers.specs.Format.{Ends}
-use Rattle.text_numbers.specs.Number.{isDigit}
-use Rattle.text_numbers.proofs.Readers.{same-value}
-use Rattle.text_numbers.proofs.Numbers.{number-format}
 use Rattle.refusals_text.specs.Report.{keyNumber}
+use Rattle.refusals_text.proofs.Told.{lf-ends, key-number-told}
 use Rattle.trials_report.specs.Report.{resultLine, resultLines}
 
-lf-ends : (w : List ℕ) → Ends (10 ∷ w)
-unfolding isDigit
-lf-ends w = record { digit = refl; comma = refl }
-
--- a number that a LF ends, and what stands behind it
-module _ (a b : ℕ) (v w : List ℕ) (l : a ≤ 255) (m : b ≤ 255) (e : printNumber a ++ 10 ∷ v ≡ printNumber b ++ 10 ∷ w) where
-  same-number : a ≡ b
-  same-number =
-      let f = number-format 255 (omega arith) in
-      same-value (sym (f .reads a l (printNumber a ++ 10 ∷ v) 0 (10 ∷ v) (lf-ends v) refl) ∙ f .reads b m (printNumber a ++ 10 ∷ v) 0 (10 ∷ w) (lf-ends w) e)
-
-  same-rest : v ≡ w
-  same-rest = tail-eq-of-cons-eq (append-cancel-left (printNumber b) (10 ∷ v) (10 ∷ w) (ap (λ (n : ℕ). printNumber n ++ 10 ∷ v) (sym same-number) ∙ e))
-
--- all that stands before the result of a line
-unfoldable front : ℕ → List ℕ
-front k = keyNumber (bytes "order=") k ++ bytes " result="
-
-line-is : (k a : ℕ) (v : List ℕ) → resultLine k a ++ v ≡ front k ++ (printNumber a ++ 10 ∷ v)
-unfolding resultLine keyNumber front
+line-is : (k a : ℕ) (v : List ℕ) → resultLine k a ++ v ≡ keyNumber (bytes "order=") k ++ (keyNumber (bytes " result=") a ++ 10 ∷ v)
+unfolding resultLine
 line-is k a v = simp append-assoc
 
 no-line : (k a : ℕ) (v : List ℕ) → length (resultLine k a ++ v) ≡ 0 → ⊥
@@ -42,8 +20,10 @@ no-line k a v e = omega arith
 
 same-line : (k a b : ℕ) (v w : List ℕ) → a < 256 → b < 256 → resultLine k a ++ v ≡ resultLine k b ++ w → (a ≡ b) × (v ≡ w)
 same-line k a b v w l m e =
-    let g = append-cancel-left (front k) (printNumber a ++ 10 ∷ v) (printNumber b ++ 10 ∷ w) (sym (line-is k a v) ∙ e ∙ line-is k b w) in
-    (same-number a b v w (omega arith) (omega arith) g, same-rest a b v w (omega arith) (omega arith) g)
+    let key = bytes " result=" in
+    let g = append-cancel-left (keyNumber (bytes "order=") k) (keyNumber key a ++ 10 ∷ v) (keyNumber key b ++ 10 ∷ w) (sym (line-is k a v) ∙ e ∙ line-is k b w) in
+    let (x, y) = key-number-told key a b (10 ∷ v) (10 ∷ w) (omega arith) (omega arith) (lf-ends v) (lf-ends w) g in
+    (x, tail-eq-of-cons-eq y)
 
 -- one text is one list of results
 pub results-told : (k : ℕ) (xs ys : List ℕ) → ((i : ℕ) → getD xs i 0 < 256) → ((i : ℕ) → getD ys i 0 < 256) → resultLines k xs ≡ resultLines k ys → xs ≡ ys

@@ -1,7 +1,5 @@
 // Reads a table text from standard input, and writes its normal form or what is refused to standard output.
 use call_answers::NormalAnswer;
-use libc::STDERR_FILENO;
-use libc::STDIN_FILENO;
 
 fn answer(tables: &[u8]) {
     let mut out = io::large_buffer();
@@ -17,16 +15,10 @@ fn answer(tables: &[u8]) {
 }
 
 fn main() {
-    if 1 < os::arg_count() {
-        io::write_all(STDERR_FILENO, b"usage: normalise < TABLES\n");
-        return;
-    }
     let mut buf = io::large_buffer();
-    let input = program_input::read_all(STDIN_FILENO, &mut buf);
-    if !input.ok {
-        os::fail(b"standard input");
-        return;
+    let input = program_input::read_input(b"usage: normalise < TABLES\n", &mut buf);
+    if input.ok {
+        let n = input.len;
+        answer(&buf[..n]);
     }
-    let n = input.len;
-    answer(&buf[..n]);
 }

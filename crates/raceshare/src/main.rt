@@ -1,7 +1,5 @@
 // Reads a trace from standard input, and writes how many of its unordered pairs commute, or what is refused, to standard output.
 use call_answers::ShareAnswer;
-use libc::STDERR_FILENO;
-use libc::STDIN_FILENO;
 
 fn answer(trace: &[u8]) {
     let a = share_call::share(trace);
@@ -18,16 +16,10 @@ fn answer(trace: &[u8]) {
 }
 
 fn main() {
-    if 1 < os::arg_count() {
-        io::write_all(STDERR_FILENO, b"usage: raceshare < TRACE\n");
-        return;
-    }
     let mut buf = io::large_buffer();
-    let input = program_input::read_all(STDIN_FILENO, &mut buf);
-    if !input.ok {
-        os::fail(b"standard input");
-        return;
+    let input = program_input::read_input(b"usage: raceshare < TRACE\n", &mut buf);
+    if input.ok {
+        let n = input.len;
+        answer(&buf[..n]);
     }
-    let n = input.len;
-    answer(&buf[..n]);
 }

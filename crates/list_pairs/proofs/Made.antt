@@ -26,7 +26,7 @@ module _ (es : List Event) (few : length es ≤ 256) (c : Counts) (e : c ≡ cou
   listed-most : c .listed ≤ 32640
   listed-most = omega (arith, listed-is, count-most listed es few)
 
-  counts-small : Small c
+  pub counts-small : Small c
   unfolding countsOf
   counts-small = rw e (small-of (countsOf es) small)
     where

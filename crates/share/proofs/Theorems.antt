@@ -1,7 +1,7 @@
 -- The share is a division that leaves nothing out (`share-means`), the only one (`share-iff`); it is whole exactly if unordered
--- pairs exist and none is listed (`share-whole`). Assumes nothing.
-use Prim.Native.Nat.{ℕ, _+_, _*_, _/_, _%_, _<_}
-use native.Mathlib.Nat.{div-add-mod', mod-lt}
+-- pairs exist and none is listed (`share-whole`), and of small counts it is small (`share-small`). Assumes nothing.
+use Prim.Native.Nat.{ℕ, _+_, _*_, _/_, _%_, _≤_, _<_}
+use native.Mathlib.Nat.{div-add-mod', div-le-self, mod-le, mod-lt}
 use native.Mathlib.Omega.{arith}
 use mathlib.Core.Path.{_≡_, refl, sym, ap, ap₂, _∙_}
 use mathlib.Core.Logic.{_↔_}
@@ -9,6 +9,7 @@ use lib.Arith.{digits-div, digits-mod}
 use lib.Dec.{eqb}
 use borrow.Author.Tests.{eqb-true, eqb-false, eq-eqb, ne-eqb}
 use Rattle.basics.proofs.Booleans.{split}
+use Rattle.call_answers.specs.Inner.{Small}
 use Rattle.share.specs.Types.{Counts, Share}
 use Rattle.share.specs.Share.{unordered, noShare, shareOf}
 use Rattle.share.specs.Meaning.{IsShare}
@@ -80,3 +81,10 @@ module _ (c : Counts) where
           let x : Share = record { quotient = 1000; remainder = 0; divisor = c .commuting } in
           let s : IsShare c x = record { by = omega (arith, z); product = omega arith; below = λ b. b; none = λ e. absurd (omega (arith, l, e)) } in
           ap (λ (y : Share). y .quotient) (sym (share-iff x .1 s))
+
+  -- of counts that are small all three are
+  pub share-small : Small c → (shareOf c .quotient ≤ 65535000) × (shareOf c .remainder ≤ 65535000) × (shareOf c .divisor ≤ 131070)
+  share-small small =
+      by-divisor _ (λ e. rw (share-none e) (omega arith, omega arith, omega arith))
+      (λ u. rw (share-some u)
+      (omega (arith, div-le-self (1000 * c .commuting) (unordered c), small .commuting-small), omega (arith, mod-le (1000 * c .commuting) (unordered c), small .commuting-small), omega (arith, small .commuting-small, small .listed-small)))

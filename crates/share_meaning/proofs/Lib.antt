@@ -1,2 +1,3 @@
 pub mod Unordered
 pub mod Theorems
+pub mod Printed

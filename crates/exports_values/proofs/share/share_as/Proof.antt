@@ -4,7 +4,9 @@ use Rattle.exports_values.proofs.share.share_as.Statement.{statement}
 use Rattle.exports_values.proofs.share.share_as.Tie as tie
 
 returns : tie.Need-returns
-returns c = share-divided _ (c .before .before .answer .given .1) (c .nothing .ensures)
+returns c =
+    let start = c .before .before .before .before .before in
+    share-divided (start .args .trace .now) {v = c .before .before .answer .given .0 .0} (c .before .before .answer .given .1) (c .nothing .ensures)
 
 returns-2 : tie.Need-returns-2
 returns-2 c = share-refused _ (c .before .before .before .answer2 .given .1) (c .from .ensures)

@@ -59,15 +59,13 @@ impl Search {
         requires { ⌜ n < 512 ⌝ }
         ensures { λ r. ⌜ r ≡ roomFor (self .same) (self .at) n ⌝ }
     {
+        let more = n + 1;
         if self.same {
             return Room {
                 from: self.at,
                 len: n,
             };
         }
-        Room {
-            from: n,
-            len: n + 1,
-        }
+        Room { from: n, len: more }
     }
 }

@@ -10,4 +10,4 @@ returns-2 : tie.Need-returns-2
 returns-2 c = rw (c .if1 .left) refl
 
 pub room-in-spec : {M : Type 1} → statement M
-room-in-spec = tie.close (tie.spec returns (λ c. search needs) returns-2)
+room-in-spec = tie.close (tie.spec (λ c. search needs) returns returns-2)

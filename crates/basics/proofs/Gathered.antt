@@ -107,3 +107,15 @@ sum-at f g v x h e (suc m) l =
       | yes q ↦ omega (arith, sum-before f g v h m (omega arith), ap f q, ap g q)
       | no ne ↦ omega (arith, sum-at f g v x h e m (omega arith), h m ne)
     ]
+
+pub sum-more : (f g : ℕ → ℕ) (v x : ℕ) → ((w : ℕ) → (w ≡ v → ⊥) → f w ≡ g w) → f v ≤ g v + x → (m : ℕ) → sumBelow f m ≤ sumBelow g m + x
+sum-more f g v x h e zero = omega arith
+sum-more f g v x h e (suc m) =
+    elim (ℕ-discrete m v) [
+      | yes q ↦ omega (arith, sum-before f g v h m (omega arith), ap f q, ap g q)
+      | no ne ↦ omega (arith, sum-more f g v x h e m, h m ne)
+    ]
+
+pub sum-none : (m : ℕ) → sumBelow (λ w. 0) m ≡ 0
+sum-none zero = refl
+sum-none (suc m) = omega (arith, sum-none m)

@@ -1,15 +1,18 @@
--- What each event does: the order of a table is kept, what is found at a key afterwards, at most one entry more. Assumes nothing.
+-- What each event does: the order of a table is kept, what is found at a key afterwards, at most one entry more, in its own switch's
+-- table (`length-after`) and on all switches together (`held-step`). Assumes nothing.
 use mathlib.Core.Path.{_≡_, refl, ap}
 use mathlib.Core.Bool.{Bool, true, false, cond}
 use mathlib.Core.List.{[], _∷_}
-use Prim.Native.Nat.{ℕ, suc, _≤_}
+use Prim.Native.Nat.{ℕ, suc, _+_, _≤_}
 use native.Mathlib.Omega.{arith}
 use lib.ListN.{length}
+use borrow.Author.Tests.{eq-eqb, ne-eqb}
 use Rattle.basics.proofs.Booleans.{split}
+use Rattle.basics.proofs.Gathered.{sum-more}
 use Rattle.flow.specs.Entries.{keyOrder, sameKey}
 use Rattle.flow_table.specs.Types.{Packet, Action, Key, Entry, Ordering, Origin, TableOperation, Operation, Effect}
-use Rattle.flow_table.specs.FlowTable.{Table, entry, Sorted, insertBy, insert, removeIf, assignIf, anyOf, inside, clash, tableEffect, after, get, foundAfter}
-use Rattle.flow_table.specs.Switches.{Tables, stepOf, answerOf}
+use Rattle.flow_table.specs.FlowTable.{Table, entry, Sorted, insertBy, insert, removeIf, assignIf, anyOf, inside, clash, tableEffect, effectOf, after, get, foundAfter}
+use Rattle.flow_table.specs.Switches.{Tables, entriesHeld, switchOf, stepOf, answerOf}
 use Rattle.flow_table.proofs.TableLaws.{sorted-insert, sorted-remove, sorted-assign, get-insert, get-remove, get-assign}
 
 -- what the operations do, by the test that they make
@@ -51,7 +54,7 @@ length-insert k a (e ∷ t) = go (keyOrder k (e .key)) (length-insert k a t)
     go Ordering.Equal ih = omega arith
     go Ordering.Greater ih = omega arith
 
-length-remove : (p : Key → Bool) (t : Table) → length (removeIf p t) ≤ length t
+pub length-remove : (p : Key → Bool) (t : Table) → length (removeIf p t) ≤ length t
 length-remove p [] = omega arith
 length-remove p (e ∷ t) = go (p (e .key)) (length-remove p t)
   where
@@ -72,6 +75,15 @@ length-after (Effect.Modn k a) t = split (anyOf (inside (k .pattern)) t) (λ e. 
 length-after (Effect.Dels k) t = omega (arith, length-remove (sameKey k) t)
 length-after (Effect.Deln m) t = omega (arith, length-remove (inside m) t)
 length-after Effect.Idle t = omega arith
+
+-- on all switches together
+pub held-step : (n : ℕ) (o : Operation) (s : Tables) → entriesHeld n (stepOf o s) ≤ entriesHeld n s + 1
+unfolding entriesHeld stepOf
+held-step n o s =
+    sum-more (λ w. length (stepOf o s w)) (λ w. length (s w)) (switchOf o) 1
+    (λ w ne. rw (ne-eqb w (switchOf o) ne) refl)
+    (rw (eq-eqb (switchOf o) (switchOf o) refl) (omega (arith, length-after (effectOf o) (s (switchOf o)))))
+    n
 
 -- what is found at a key after an event
 pub get-after : (v : Effect) (k : Key) (t : Table) → get k (after v t) ≡ foundAfter v k t

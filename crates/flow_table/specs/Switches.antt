@@ -2,6 +2,8 @@
 use mathlib.Core.Bool.{Bool, true, false, cond}
 use Prim.Native.Nat.{ℕ}
 use lib.Dec.{eqb}
+use lib.ListN.{length}
+use Rattle.basics.specs.Searches.{sumBelow}
 use Rattle.flow_table.specs.Types.{Operation, Answer}
 use Rattle.flow_table.specs.FlowTable.{Table, Sorted, effectOf, after, answer}
 
@@ -11,6 +13,10 @@ Tables = ℕ → Table
 
 abbrev pub InOrder : Tables → Type 0
 InOrder s = (w : ℕ) → Sorted (s w)
+
+-- how many entries the switches 0 to n - 1 hold together; of all switches n is 16
+unfoldable pub entriesHeld : ℕ → Tables → ℕ
+entriesHeld n s = sumBelow (λ w. length (s w)) n
 
 abbrev pub switchOf : Operation → ℕ
 switchOf Operation.Other = 0

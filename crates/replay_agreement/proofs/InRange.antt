@@ -13,7 +13,7 @@ use Rattle.basics.proofs.Booleans.{split}
 use Rattle.flow.specs.Entries.{keyOrder, sameKey, KeyInRange, ActionInRange, EntryInRange}
 use Rattle.flow_table.specs.FlowTable.{Table, TableInRange, EffectInRange, entry, insertBy, insert, removeIf, assignIf, anyOf, inside, clash, admits, fitting, highest, atPriority, firstAt, best, effectOf, after, answer}
 use Rattle.flow_table.specs.Switches.{Tables, switchOf, stepOf, answerOf}
-use Rattle.flow_table.proofs.Effects.{length-after}
+use Rattle.flow_table.proofs.Effects.{length-remove, length-after}
 use Rattle.order_meaning.specs.Tables.{endTables, answers}
 use Rattle.rows.specs.Rows.{tableOf}
 use Rattle.replay_answers.proofs.AnswerLines.{AnswerShort}
@@ -60,14 +60,6 @@ range-after Effect.Idle t h r = r
 abbrev pub Short : Option Answer → Type 0
 Short none = Unit {0}
 Short (some a) = AnswerShort a
-
-length-remove : (p : Key → Bool) (t : Table) → length (removeIf p t) ≤ length t
-length-remove p [] = omega arith
-length-remove p (e ∷ t) = go (p (e .key)) (length-remove p t)
-  where
-    go : (b : Bool) → length (removeIf p t) ≤ length t → length (cond b (removeIf p t) (e ∷ removeIf p t)) ≤ suc (length t)
-    go true ih = omega arith
-    go false ih = omega arith
 
 highest-range : (t : Table) → TableInRange t → highest t < 65536
 highest-range [] r = omega arith

@@ -54,11 +54,6 @@ pub gather-through : {A B : Type 0} (h : List A → List B) → h [] ≡ [] → 
 gather-through h e both f zero = e
 gather-through h e both f (suc n) = both (gather f n) (f n) ∙ ap (λ l. l ++ h (f n)) (gather-through h e both f n)
 
--- the length is the sum of the parts' lengths
-pub gather-length : {A : Type 0} (f : ℕ → List A) (n : ℕ) → length (gather f n) ≡ sumBelow (λ j. length (f j)) n
-gather-length f zero = refl
-gather-length f (suc n) = omega (arith, length-append (gather f n) (f n), gather-length f n)
-
 pub size-only : {A : Type 0} (t : Bool) (x : A) → length (only t x) ≡ size t
 size-only true x = refl
 size-only false x = refl

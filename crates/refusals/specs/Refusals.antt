@@ -41,8 +41,6 @@ returned (Refusal.EventTooEarly position) = refusalRow 22 position Source.Neithe
 returned (Refusal.ListShort needed) = refusalRow 31 needed Source.Neither
 returned (Refusal.TablesShort needed) = refusalRow 32 needed Source.Neither
 returned (Refusal.AnswersShort needed) = refusalRow 33 needed Source.Neither
--- over 512 entries held
-returned Refusal.TooManyEntries = refusalRow 41 0 Source.Neither
 -- page buffer too short
 returned (Refusal.PageShort needed) = refusalRow 51 needed Source.Neither
 -- the orders' length is no multiple of the event count

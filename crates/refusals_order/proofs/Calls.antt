@@ -5,9 +5,7 @@ use mathlib.Core.Bool.{true, true≢false}
 use mathlib.Core.Logic.{_↔_, inl, inr}
 use mathlib.Core.List.{List, [], _∷_, _++_, append-nil}
 use Prim.Native.Nat.{ℕ, _<_}
-use lib.Dec.{ltb}
 use lib.ListN.{length}
-use borrow.Author.Tests.{ltb-true, lt-ltb}
 use Rattle.basics.proofs.Booleans.{split}
 use Rattle.refusals.specs.Checks.{Checked, _▹_, refuseIf, refuseShort}
 use Rattle.refusals.proofs.Checks.{same-value}
@@ -24,12 +22,11 @@ use Rattle.page_text.specs.Page.{pageText}
 use Rattle.page_call.specs.Paged.{paged}
 use Rattle.share.specs.Share.{shareOf}
 use Rattle.share_call.specs.Shared.{shared}
-use Rattle.order_meaning.specs.Tables.{endTables}
 use Rattle.rows.specs.Rows.{tablesOf}
 use Rattle.order_check.specs.Schedule.{checkOrder}
-use Rattle.order_rows.specs.Runs.{operationAt}
-use Rattle.replay_texts.specs.Writing.{Replayed}
-use Rattle.replay_call.specs.Replay.{entriesHeld, textsOf, replayed}
+use Rattle.replay_texts.specs.Inner.{fittingBoth}
+use Rattle.replay_call.specs.Replay.{textsOf, replayed}
+use Rattle.replay_call.specs.Inner.{fromTables}
 use Rattle.order_trials.specs.Trials.{uneven, orderBytes}
 use Rattle.order_trials.proofs.Counting.{even-iff}
 use Rattle.trials_call.specs.Tried.{tried}
@@ -39,7 +36,7 @@ use Rattle.refusals_order.specs.Causes.{Cause, FirstOf, Of}
 use Rattle.refusals_order.specs.Traces.{traceCauses}
 use Rattle.refusals_order.specs.Tables.{tablesCauses}
 use Rattle.refusals_order.specs.Orders.{incompleteCause, earlyPutCause, orderCauses}
-use Rattle.refusals_order.specs.Calls.{shortCause, listCauses, pageCauses, shareCauses, normalCauses, OfBoth, heldCause, endShortCause, answersShortCause, replayCauses, Uneven, unevenCause, trialsShortCause, trialsCauses}
+use Rattle.refusals_order.specs.Calls.{shortCause, listCauses, pageCauses, shareCauses, normalCauses, OfBoth, endShortCause, answersShortCause, replayCauses, Uneven, unevenCause, trialsShortCause, trialsCauses}
 use Rattle.refusals_order.proofs.Causes.{Same, Tells, tells-same, then-tells, when-tells, short-tells, never-tells, of-said}
 use Rattle.refusals_order.proofs.Traces.{trace-tells}
 use Rattle.refusals_order.proofs.Tables.{tables-tell}
@@ -113,46 +110,29 @@ module _ (trace tables : List ℕ) where
 -- ---- replay
 module _ (trace tables o : List ℕ) (room room' : ℕ) where
   module _ (es : List Event) (rs : List Row) where
-    -- what follows the two texts, on what they say
-    abbrev pub follows : Checked Replayed
-    follows =
-        checkOrder es o ▹ λ _.
-        refuseIf (ltb 512 (entriesHeld (endTables (operationAt es) o (tablesOf rs)))) Refusal.TooManyEntries ▹ λ _.
-        refuseShort room (textsOf es o (tablesOf rs) .tables) Refusal.TablesShort ▹ λ _.
-        refuseShort room' (textsOf es o (tablesOf rs) .answers) Refusal.AnswersShort ▹ λ _.
-        inr (textsOf es o (tablesOf rs))
-
     abbrev causes : List Cause
-    causes = incompleteCause o es ∷ earlyPutCause o es ∷ heldCause o es rs ∷ endShortCause o room es rs ∷ answersShortCause o room' es rs ∷ []
+    causes = incompleteCause o es ∷ earlyPutCause o es ∷ endShortCause o room es rs ∷ answersShortCause o room' es rs ∷ []
 
-    follows-tells : Tells follows causes
+    replay-tells : Tells (fromTables es (tablesOf rs) o room room') causes
     unfolding orderCauses
-    follows-tells =
+    replay-tells =
         let texts = textsOf es o (tablesOf rs) in
-        let n = entriesHeld (endTables (operationAt es) o (tablesOf rs)) in
-        let answers33 : Unit {0} → Checked Replayed = λ _. inr texts in
-        let tables32 : Unit {0} → Checked Replayed = λ _. refuseShort room' (texts .answers) Refusal.AnswersShort ▹ answers33 in
-        let held41 : Unit {0} → Checked Replayed = λ _. refuseShort room (texts .tables) Refusal.TablesShort ▹ tables32 in
-        then-tells (checkOrder es o) (λ _. refuseIf (ltb 512 n) Refusal.TooManyEntries ▹ held41) (orderCauses o es) (heldCause o es rs ∷ endShortCause o room es rs ∷ answersShortCause o room' es rs ∷ [])
+        then-tells (checkOrder es o) (λ _. fittingBoth texts room room') (orderCauses o es) (endShortCause o room es rs ∷ answersShortCause o room' es rs ∷ [])
         (order-tells es o)
-        (λ _ a. then-tells (refuseIf (ltb 512 n) Refusal.TooManyEntries) held41 (heldCause o es rs ∷ []) (endShortCause o room es rs ∷ answersShortCause o room' es rs ∷ [])
-        (when-tells (ltb 512 n) (512 < n) (ltb-true 512 n, lt-ltb 512 n) Refusal.TooManyEntries)
-        (λ _ b. then-tells (refuseShort room (texts .tables) Refusal.TablesShort) tables32 (endShortCause o room es rs ∷ []) (answersShortCause o room' es rs ∷ [])
+        (λ _ a. then-tells (refuseShort room (texts .tables) Refusal.TablesShort) (λ _. refuseShort room' (texts .answers) Refusal.AnswersShort ▹ λ _. inr texts)
+        (endShortCause o room es rs ∷ []) (answersShortCause o room' es rs ∷ [])
         (short-tells room (texts .tables) Refusal.TablesShort)
-        (λ _ c. room-tells room' Refusal.AnswersShort (texts .answers) texts)))
+        (λ _ b. room-tells room' Refusal.AnswersShort (texts .answers) texts))
 
-  -- THE refusal of a replay: the first of 1 to 8, 11 to 16, 21, 22, 41, 32, 33 that applies
+  -- THE refusal of a replay: the first of 1 to 8, 11 to 16, 21, 22, 32, 33 that applies
   pub replay-refused-iff : (r : Refusal) → (replayed trace tables o room room' ≡ inl r) ↔ FirstOf (replayCauses trace tables o room room') r
   unfolding replayed replayCauses
   replay-refused-iff =
-      both-tell trace tables follows causes follows-tells
-      (Of (IsTrace trace) (incompleteCause o) ∷ Of (IsTrace trace) (earlyPutCause o) ∷ OfBoth trace tables (heldCause o) ∷ OfBoth trace tables (endShortCause o room) ∷ OfBoth trace tables (answersShortCause o room') ∷ [])
+      both-tell trace tables (λ es rs. fromTables es (tablesOf rs) o room room') causes replay-tells
+      (Of (IsTrace trace) (incompleteCause o) ∷ Of (IsTrace trace) (earlyPutCause o) ∷ OfBoth trace tables (endShortCause o room) ∷ OfBoth trace tables (answersShortCause o room') ∷ [])
       (λ es e rs f. (
         by-trace trace tables es e (incompleteCause o),
-        (
-          by-trace trace tables es e (earlyPutCause o),
-          (by-both trace tables es e rs f (heldCause o), (by-both trace tables es e rs f (endShortCause o room), (by-both trace tables es e rs f (answersShortCause o room'), tt))),
-        ),
+        (by-trace trace tables es e (earlyPutCause o), (by-both trace tables es e rs f (endShortCause o room), (by-both trace tables es e rs f (answersShortCause o room'), tt))),
       ))
 
 -- ---- many orders

@@ -4,7 +4,6 @@ use mathlib.Core.Path.{_≡_, refl, sym, ap, _∙_}
 use mathlib.Core.List.{List}
 use mathlib.Core.Logic.{_⊎_, inl, inr}
 use Prim.Native.Nat.{ℕ}
-use lib.Dec.{ltb}
 use lib.ListN.{length}
 use Rattle.basics.specs.Text.{startingWith}
 use Rattle.refusals.specs.Checks.{Checked, _▹_, refuseIf, refuseShort, written}
@@ -21,11 +20,11 @@ use Rattle.page_call.specs.Paged.{paged, pageAnswer}
 use Rattle.share.specs.Share.{shareOf}
 use Rattle.share_call.specs.Shared.{shared, shareAnswer}
 use Rattle.replay_texts.specs.Writing.{Replayed, replayAnswer, tablesOut, answersOut}
-use Rattle.order_meaning.specs.Tables.{endTables}
 use Rattle.rows.specs.Rows.{tablesOf}
 use Rattle.order_check.specs.Schedule.{checkOrder}
-use Rattle.order_rows.specs.Runs.{operationAt}
-use Rattle.replay_call.specs.Replay.{entriesHeld, textsOf, replayed}
+use Rattle.replay_texts.specs.Inner.{fittingBoth}
+use Rattle.replay_call.specs.Replay.{textsOf, replayed}
+use Rattle.replay_call.specs.Inner.{fromTables}
 use Rattle.order_trials.specs.Trials.{uneven, orderBytes}
 use Rattle.trials_call.specs.Tried.{tried, trialsAnswer}
 use Rattle.trials_call.specs.Inner.{triedFrom}
@@ -33,7 +32,7 @@ use Rattle.refusals_order.specs.Types.{Refusal, Event, Row, Share, ListA
 use Rattle.refusals_order.specs.Calls.{listCauses, pageCauses, shareCauses, normalCauses, replayCauses, trialsCauses}
 use Rattle.refusals_order.specs.Demand1.{ListRefused, ListDone, PageRefused, PageDone, ShareRefused, ShareDone, NormalRefused, NormalDone, ReplayRefused, ReplayDone, TrialsRefused, TrialsDone, Demand1}
 use Rattle.refusals_order.proofs.Causes.{handed-none}
-use Rattle.refusals_order.proofs.Calls.{follows, list-refused-iff, page-refused-iff, share-refused-iff, normal-refused-iff, replay-refused-iff, trials-refused-iff}
+use Rattle.refusals_order.proofs.Calls.{list-refused-iff, page-refused-iff, share-refused-iff, normal-refused-iff, replay-refused-iff, trials-refused-iff}
 
 -- ---- what an accepted input hands on
 module _ {A B : Type 0} (x : Checked A) (room : ℕ) (text : A → List ℕ) (refusal : ℕ → Refusal) (value : A → B) {b : B} where
@@ -68,24 +67,18 @@ both-on trace tables next h =
     (es, e, handed-on (readTables tables) (λ rs. next es rs) f)
 
 module _ (trace tables o : List ℕ) (room room' : ℕ) (x : Replayed) where
-  follows-on : (es : List Event) (rs : List Row) → follows trace tables o room room' es rs ≡ inr x → textsOf es o (tablesOf rs) ≡ x
-  follows-on es rs h =
+  texts-on : (es : List Event) (rs : List Row) → fromTables es (tablesOf rs) o room room' ≡ inr x → textsOf es o (tablesOf rs) ≡ x
+  texts-on es rs h =
       let texts = textsOf es o (tablesOf rs) in
-      let n = entriesHeld (endTables (operationAt es) o (tablesOf rs)) in
-      let answers33 : Unit {0} → Checked Replayed = λ _. inr texts in
-      let tables32 : Unit {0} → Checked Replayed = λ _. refuseShort room' (texts .answers) Refusal.AnswersShort ▹ answers33 in
-      let held41 : Unit {0} → Checked Replayed = λ _. refuseShort room (texts .tables) Refusal.TablesShort ▹ tables32 in
-      let ordered = handed-on (checkOrder es o) (λ _. refuseIf (ltb 512 n) Refusal.TooManyEntries ▹ held41) h in
-      let few = handed-on (refuseIf (ltb 512 n) Refusal.TooManyEntries) held41 (ordered .2) in
-      let ends = handed-on (refuseShort room (texts .tables) Refusal.TablesShort) tables32 (few .2) in
-      same-value (handed-on (refuseShort room' (texts .answers) Refusal.AnswersShort) answers33 (ends .2) .2)
+      let ordered = handed-on (checkOrder es o) (λ _. fittingBoth texts room room') h in
+      fits-on (refuseShort room (texts .tables) Refusal.TablesShort) room' (λ _. texts .answers) Refusal.AnswersShort (λ _. texts) (ordered .2) .2
 
   replayed-on : replayed trace tables o room room' ≡ inr x
       → (es : List Event) × (readTrace trace ≡ inr es) × ((rs : List Row) × (readTables tables ≡ inr rs) × (textsOf es o (tablesOf rs) ≡ x))
   unfolding replayed
   replayed-on h =
-      let (es, e, (rs, k, g)) = both-on trace tables (follows trace tables o room room') h in
-      (es, e, (rs, k, follows-on es rs g))
+      let (es, e, (rs, k, g)) = both-on trace tables (λ es rs. fromTables es (tablesOf rs) o room room') h in
+      (es, e, (rs, k, texts-on es rs g))
 
 module _ (trace tables os : List ℕ) (room : ℕ) (x : List ℕ) where
   tried-on : tried trace tables os room ≡ inr x

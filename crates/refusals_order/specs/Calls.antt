@@ -12,7 +12,7 @@ use Rattle.page_text.specs.Page.{pageText}
 use Rattle.order_meaning.specs.Tables.{endTables}
 use Rattle.order_rows.specs.Runs.{operationAt}
 use Rattle.order_trials.specs.Trials.{orderBytes}
-use Rattle.replay_call.specs.Replay.{entriesHeld, answerLines}
+use Rattle.replay_call.specs.Replay.{answerLines}
 use Rattle.refusals_order.specs.Types.{Refusal, Event, Row}
 use Rattle.refusals_order.specs.Causes.{Cause, When, Of}
 use Rattle.refusals_order.specs.Traces.{traceCauses}
@@ -44,10 +44,6 @@ abbrev pub OfBoth : List ℕ → List ℕ → (List Event → List Row → Cause
 OfBoth trace tables c = Of (IsTrace trace) (λ es. Of (IsTables tables) (λ rs. c es rs))
 
 -- ---- replay
--- 41: over 512 entries held
-abbrev pub heldCause : List ℕ → List Event → List Row → Cause
-heldCause o es rs = When (512 < entriesHeld (endTables (operationAt es) o (tablesOf rs))) Refusal.TooManyEntries
-
 -- 32: the normal text of the end tables
 abbrev pub endShortCause : List ℕ → ℕ → List Event → List Row → Cause
 endShortCause o room es rs = shortCause room Refusal.TablesShort (tablesText (endTables (operationAt es) o (tablesOf rs)))
@@ -56,14 +52,13 @@ endShortCause o room es rs = shortCause room Refusal.TablesShort (tablesText (en
 abbrev pub answersShortCause : List ℕ → ℕ → List Event → List Row → Cause
 answersShortCause o room es rs = shortCause room Refusal.AnswersShort (answerLines es o (tablesOf rs))
 
--- 1 to 8; 11 to 16; 21, 22; 41; 32; 33
+-- 1 to 8; 11 to 16; 21, 22; 32; 33
 unfoldable pub replayCauses : List ℕ → List ℕ → List ℕ → ℕ → ℕ → List Cause
 replayCauses trace tables o room room' =
     traceCauses trace
     ++ (tablesCauses tables
     ++ (Of (IsTrace trace) (incompleteCause o)
     ∷ Of (IsTrace trace) (earlyPutCause o)
-    ∷ OfBoth trace tables (heldCause o)
     ∷ OfBoth trace tables (endShortCause o room)
     ∷ OfBoth trace tables (answersShortCause o room')
     ∷ []))

@@ -8,6 +8,7 @@ use mathlib.Core.List.{List, [], _++_}
 use Prim.Native.Nat.{ℕ, zero, suc, _*_, _≤_, _<_}
 use native.Mathlib.Omega.{arith}
 use lib.ListN.{length, length-append}
+use lib.Seq.{take-all}
 use Rattle.basics.specs.Text.{bytes}
 use Rattle.text_numbers.specs.Print.{decimal, printNumber, hexDigit, hexadecimal, printHex}
 use Rattle.text_numbers.proofs.Print.{print-short}
@@ -33,8 +34,8 @@ use Rattle.order_rows.specs.Inner.{runRows}
 use Rattle.replay_answers.specs.Answers.{printItem, isSilent, printAnswer, answersText}
 use Rattle.replay_answers.proofs.AnswerLines.{AnswerShort}
 use Rattle.replay_call.specs.Replay.{answerLines}
-use Rattle.replay_call.proofs.RowsAreTables.{end-text, end-count}
-use Rattle.replay_call.proofs.Theorems.{never-41}
+use Rattle.replay_call.proofs.RowsAreTables.{end-text}
+use Rattle.replay_call.proofs.Theorems.{never-over}
 use Rattle.replay_agreement.specs.Types.{Action, Answer, Event, Row}
 use Rattle.replay_agreement.specs.Buffers.{LongEnough}
 use Rattle.replay_agreement.proofs.EndInRange.{end-rows-in-range, given-short}
@@ -101,13 +102,8 @@ module _ (s : List ℕ) (es : List Event) (trace : readTrace s ≡ inr es) where
     -- its end tables
     pub tables-room : length (tablesText (endTables (operationAt es) o (tablesOf rs))) ≤ 58880
     tables-room =
-        omega (
-          arith,
-          ap length (end-text s t es rs trace tables o),
-          normal-most (runRows es o rs) (end-rows-in-range s t es rs trace tables o),
-          end-count s t es rs trace tables o,
-          never-41 s t o es rs trace tables order,
-        )
+        let held : length (runRows es o rs) ≤ 512 = rw (take-all (length o) o (omega arith)) at (never-over s t o es rs trace tables order .rows (length o)) in
+        omega (arith, ap length (end-text s t es rs trace tables o), normal-most (runRows es o rs) (end-rows-in-range s t es rs trace tables o))
 
     -- its answers
     pub answers-room : length (answerLines es o (tablesOf rs)) ≤ 7168

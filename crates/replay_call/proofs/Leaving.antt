@@ -2,9 +2,8 @@
 use mathlib.Core.Path.{_≡_, refl, sym, ap, _∙_, fun-ext}
 use mathlib.Core.List.{List}
 use mathlib.Core.Logic.{inl, inr}
-use Prim.Native.Nat.{ℕ, _≤_, _<_}
+use Prim.Native.Nat.{ℕ, _≤_}
 use native.Mathlib.Omega.{arith}
-use borrow.Author.Tests.{le-ltb}
 use lib.ListN.{length, length-take}
 use Rattle.refusals.specs.Checks.{_▹_, written}
 use Rattle.trace_events.specs.Events.{eventsOf}
@@ -15,36 +14,28 @@ use Rattle.inputs.proofs.Both.{both-accepted, both-then}
 use Rattle.order_check.specs.Schedule.{checkOrder}
 use Rattle.order_check.proofs.Accepted.{order-accepted-iff}
 use Rattle.replay_answers.specs.Inner.{keptAt}
-use Rattle.order_rows.specs.Inner.{runRows}
 use Rattle.order_run.specs.Inner.{RunsTo}
-use Rattle.order_rows.proofs.EndTables.{run-length}
 use Rattle.replay_texts.specs.Writing.{replayAnswer, tablesOut, answersOut}
 use Rattle.replay_texts.specs.Inner.{bothTexts, fittingBoth, Leaves}
 use Rattle.replay_texts.proofs.Leaving.{leaves-as, refused-as}
 use Rattle.replay_call.specs.Types.{Refusal, Event, Trace, Row, Rows, Ran, ReplayAnswer}
 use Rattle.replay_call.specs.Replay.{replayed}
-use Rattle.replay_call.specs.Inner.{fromTables, rowTexts, ranFrom, orderedFrom}
+use Rattle.replay_call.specs.Inner.{fromTables, rowTexts, orderedFrom}
 use Rattle.replay_call.proofs.RowsAreTables.{checks-are}
 
--- ---- the run: 41 never
-module _ (es : List Event) (o : List ℕ) (start : Rows) (ran : Ran) (runs : RunsTo es o start ran) (few : start .len ≤ 256) (short : length o ≤ 256) where
-  pub not-over : 512 < ran .rows .len → ⊥
-  not-over h = omega (arith, runs .size)
-
-  pub ran-through : (n a b : ℕ) {r : ReplayAnswer} {old new old' new' : List ℕ} → length es ≡ n
-      → Leaves (fittingBoth (bothTexts (rowsOf (ran .rows)) (keptAt (ran .answers)) n) a b) r old new old' new' → Leaves (ranFrom es (rowsOf start) o a b) r old new old' new'
-  unfolding rowTexts
-  ran-through n a b size l =
-      let held : length (runRows es o (rowsOf start)) ≤ 512 = omega (arith, run-length es o (rowsOf start), length-take (start .len) (start .rows)) in
-      leaves-as ((λ i. fittingBoth (bothTexts (runs .rows i) (fun-ext (runs .answers) i) (sym size i)) a b) ∙ sym (rw (le-ltb 512 (length (runRows es o (rowsOf start))) held) refl)) l
+-- ---- the run
+pub ran-through : (es : List Event) (o : List ℕ) (start : Rows) (ran : Ran) → RunsTo es o start ran → (n a b : ℕ) {r : ReplayAnswer} {old new old' new' : List ℕ} → length es ≡ n
+    → Leaves (fittingBoth (bothTexts (rowsOf (ran .rows)) (keptAt (ran .answers)) n) a b) r old new old' new' → Leaves (fittingBoth (rowTexts es o (rowsOf start)) a b) r old new old' new'
+unfolding rowTexts
+ran-through es o start ran runs n a b size l = leaves-as (λ i. fittingBoth (bothTexts (runs .rows i) (fun-ext (runs .answers) i) (sym size i)) a b) l
 
 -- ---- 21, 22, or the run
 module _ (es : List Event) (rs : List Row) (o : List ℕ) (a b : ℕ) where
   pub order-refused : {e : Refusal} {old old' : List ℕ} → inl e ≡ checkOrder es o → Leaves (orderedFrom es rs o a b) (ReplayAnswer.Refused e) old old old' old'
-  order-refused p = refused-as (ap (λ x. x ▹ λ _. ranFrom es rs o a b) p)
+  order-refused p = refused-as (ap (λ x. x ▹ λ _. fittingBoth (rowTexts es o rs) a b) p)
 
-  pub order-accepted : {r : ReplayAnswer} {old new old' new' : List ℕ} → inr tt ≡ checkOrder es o → Leaves (ranFrom es rs o a b) r old new old' new' → Leaves (orderedFrom es rs o a b) r old new old' new'
-  order-accepted p l = leaves-as (ap (λ x. x ▹ λ _. ranFrom es rs o a b) p) l
+  pub order-accepted : {r : ReplayAnswer} {old new old' new' : List ℕ} → inr tt ≡ checkOrder es o → Leaves (fittingBoth (rowTexts es o rs) a b) r old new old' new' → Leaves (orderedFrom es rs o a b) r old new old' new'
+  order-accepted p l = leaves-as (ap (λ x. x ▹ λ _. fittingBoth (rowTexts es o rs) a b) p) l
 
 pub events-few : (t : Trace) → t .len ≤ 256 → length (eventsOf t) ≤ 256
 unfolding eventsOf

@@ -1,15 +1,13 @@
--- What the replay call does on rows is what is defined on tables: for an accepted trace and table text the end rows are the end tables,
--- in text (`end-text`) and in number (`end-count`), and with an accepted order both texts are (`texts-are`). Assumes nothing.
+-- What the replay call does on rows is what is defined on tables: for an accepted trace and table text the text of the end rows is that
+-- of the end tables (`end-text`), and with an accepted order both texts are (`texts-are`). Assumes nothing.
 use mathlib.Core.Path.{_≡_, refl, ap, _∙_, fun-ext}
 use mathlib.Core.List.{List, []}
 use mathlib.Core.Logic.{inl, inr}
 use Prim.Native.Nat.{ℕ, _≤_}
-use lib.Dec.{ltb}
 use lib.ListN.{length}
-use Rattle.refusals.specs.Checks.{Checked, _▹_, refuseIf}
+use Rattle.refusals.specs.Checks.{Checked, _▹_}
 use Rattle.order_meaning.specs.Tables.{endTables}
 use Rattle.rows.specs.Rows.{SortedRows, tableOf, tablesOf}
-use Rattle.rows.proofs.Gathered.{rows-counted}
 use Rattle.trace_text.specs.TraceText.{readTrace}
 use Rattle.trace_text.proofs.Accepted.{events-in-range}
 use Rattle.tables_text.specs.TableText.{readTables}
@@ -23,9 +21,9 @@ use Rattle.order_rows.specs.Inner.{runRows}
 use Rattle.order_rows.proofs.EndTables.{run-tables, run-answers, run-sorted, run-beyond}
 use Rattle.replay_answers.specs.Answers.{answersText}
 use Rattle.replay_texts.specs.Inner.{bothTexts, fittingBoth}
-use Rattle.replay_call.specs.Types.{Refusal, Event, Row}
-use Rattle.replay_call.specs.Replay.{entriesHeld, answerLines, textsOf}
-use Rattle.replay_call.specs.Inner.{fromTables, rowTexts, ranFrom, orderedFrom}
+use Rattle.replay_call.specs.Types.{Event, Row}
+use Rattle.replay_call.specs.Replay.{answerLines, textsOf}
+use Rattle.replay_call.specs.Inner.{fromTables, rowTexts, orderedFrom}
 
 module _ (s t : List ℕ) (es : List Event) (rs : List Row) (trace : readTrace s ≡ inr es) (tables : readTables t ≡ inr rs) where
   sorted : SortedRows rs
@@ -37,11 +35,6 @@ module _ (s t : List ℕ) (es : List Event) (rs : List Row) (trace : readTrace s
   -- of any part of an order: the text of the end rows
   pub end-text : (q : List ℕ) → normalText (runRows es q rs) ≡ tablesText (endTables (operationAt es) q (tablesOf rs))
   end-text q = normal-tables (runRows es q rs) (run-sorted es q rs sorted) (end-beyond q) ∙ ap tablesText (fun-ext (run-tables es q rs sorted))
-
-  -- and their number
-  pub end-count : (q : List ℕ) → length (runRows es q rs) ≡ entriesHeld (endTables (operationAt es) q (tablesOf rs))
-  unfolding entriesHeld
-  end-count q = rows-counted 16 (runRows es q rs) (run-sorted es q rs sorted) (end-beyond q) ∙ ap entriesHeld (fun-ext (run-tables es q rs sorted))
 
   module _ (o : List ℕ) where
     pub texts-are : checkOrder es o ≡ inr tt → rowTexts es o rs ≡ textsOf es o (tablesOf rs)
@@ -55,7 +48,6 @@ module _ (s t : List ℕ) (es : List Event) (rs : List Row) (trace : readTrace s
     checks-are a b = go (checkOrder es o) refl
       where
         go : (x : Checked (Unit {0})) → checkOrder es o ≡ x
-            → (x ▹ λ _. ranFrom es rs o a b)
-            ≡ (x ▹ λ _. refuseIf (ltb 512 (entriesHeld (endTables (operationAt es) o (tablesOf rs)))) Refusal.TooManyEntries ▹ λ _. fittingBoth (textsOf es o (tablesOf rs)) a b)
+            → (x ▹ λ _. fittingBoth (rowTexts es o rs) a b) ≡ (x ▹ λ _. fittingBoth (textsOf es o (tablesOf rs)) a b)
         go (inl r) e = refl
-        go (inr u) e = λ i. refuseIf (ltb 512 (end-count o i)) Refusal.TooManyEntries ▹ λ _. fittingBoth (texts-are e i) a b
+        go (inr u) e = λ i. fittingBoth (texts-are e i) a b

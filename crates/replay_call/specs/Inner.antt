@@ -1,36 +1,24 @@
 -- Inner: the later checks of a replay by themselves, on tables and on the rows that hold them.
 use mathlib.Core.List.{List}
 use Prim.Native.Nat.{ℕ}
-use lib.Dec.{ltb}
 use lib.ListN.{length}
-use Rattle.refusals.specs.Checks.{Checked, _▹_, refuseIf}
+use Rattle.refusals.specs.Checks.{Checked, _▹_}
 use Rattle.flow_table.specs.Switches.{Tables}
-use Rattle.order_meaning.specs.Tables.{endTables}
 use Rattle.order_check.specs.Schedule.{checkOrder}
-use Rattle.order_rows.specs.Runs.{operationAt}
 use Rattle.order_rows.specs.Inner.{runRows, answersIn}
 use Rattle.replay_texts.specs.Writing.{Replayed}
 use Rattle.replay_texts.specs.Inner.{bothTexts, fittingBoth}
-use Rattle.replay_call.specs.Types.{Refusal, Event, Row}
-use Rattle.replay_call.specs.Replay.{entriesHeld, textsOf}
+use Rattle.replay_call.specs.Types.{Event, Row}
+use Rattle.replay_call.specs.Replay.{textsOf}
 
--- 21, 22; 41; 32, 33
+-- 21, 22; 32, 33
 abbrev pub fromTables : List Event → Tables → List ℕ → ℕ → ℕ → Checked Replayed
-fromTables es start o room room' =
-    checkOrder es o ▹ λ _.
-    refuseIf (ltb 512 (entriesHeld (endTables (operationAt es) o start))) Refusal.TooManyEntries ▹ λ _.
-    fittingBoth (textsOf es o start) room room'
+fromTables es start o room room' = checkOrder es o ▹ λ _. fittingBoth (textsOf es o start) room room'
 
 -- both texts, of an order of the events from the rows of a table text
 unfoldable pub rowTexts : List Event → List ℕ → List Row → Replayed
 rowTexts es o rs = bothTexts (runRows es o rs) (answersIn es o rs) (length es)
 
--- on rows: 41; then 32, 33
-abbrev pub ranFrom : List Event → List Row → List ℕ → ℕ → ℕ → Checked Replayed
-ranFrom es rs o room room' =
-    refuseIf (ltb 512 (length (runRows es o rs))) Refusal.TooManyEntries ▹ λ _.
-    fittingBoth (rowTexts es o rs) room room'
-
--- on rows: 21, 22; then 41, 32, 33
+-- on rows: 21, 22; 32, 33
 abbrev pub orderedFrom : List Event → List Row → List ℕ → ℕ → ℕ → Checked Replayed
-orderedFrom es rs o room room' = checkOrder es o ▹ λ _. ranFrom es rs o room room'
+orderedFrom es rs o room room' = checkOrder es o ▹ λ _. fittingBoth (rowTexts es o rs) room room'

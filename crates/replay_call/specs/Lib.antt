@@ -1,3 +1,4 @@
 pub mod Types
 pub mod Replay
 pub mod Inner
+pub mod Held

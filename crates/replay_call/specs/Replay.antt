@@ -2,10 +2,8 @@
 use mathlib.Core.List.{List}
 use mathlib.Core.Logic.{inr}
 use Prim.Native.Nat.{ℕ}
-use lib.Dec.{ltb}
 use lib.ListN.{length}
-use Rattle.basics.specs.Searches.{sumBelow}
-use Rattle.refusals.specs.Checks.{Checked, _▹_, refuseIf, refuseShort}
+use Rattle.refusals.specs.Checks.{Checked, _▹_, refuseShort}
 use Rattle.flow_table.specs.Switches.{Tables}
 use Rattle.order_meaning.specs.Tables.{endTables, answers}
 use Rattle.rows.specs.Rows.{tablesOf}
@@ -18,10 +16,6 @@ use Rattle.replay_answers.specs.Answers.{answersText}
 use Rattle.replay_texts.specs.Writing.{Replayed}
 use Rattle.replay_call.specs.Types.{Refusal, Answer, Event}
 
--- the entries that the switches 0 to 15 hold
-unfoldable pub entriesHeld : Tables → ℕ
-entriesHeld ts = sumBelow (λ w. length (ts w)) 16
-
 -- the lines of the answers of an order of the events from these starting tables, by rising event
 unfoldable pub answerLines : List Event → List ℕ → Tables → List ℕ
 answerLines es o start = answersText (λ i. givenOr Answer.Silent (answers (operationAt es) o start i)) (length es)
@@ -31,13 +25,12 @@ abbrev pub textsOf : List Event → List ℕ → Tables → Replayed
 textsOf es o start = record { tables = tablesText (endTables (operationAt es) o start); answers = answerLines es o start }
 
 -- what replay makes of a trace's text, a table text, an order and the lengths of its two buffers, a line a check:
--- 1 to 8; 11 to 16; 21, 22; 41; 32; 33
+-- 1 to 8; 11 to 16; 21, 22; 32; 33
 unfoldable pub replayed : List ℕ → List ℕ → List ℕ → ℕ → ℕ → Checked Replayed
 replayed trace tables o room room' =
     readTrace trace ▹ λ es.
     readTables tables ▹ λ rs.
     checkOrder es o ▹ λ _.
-    refuseIf (ltb 512 (entriesHeld (endTables (operationAt es) o (tablesOf rs)))) Refusal.TooManyEntries ▹ λ _.
     refuseShort room (textsOf es o (tablesOf rs) .tables) Refusal.TablesShort ▹ λ _.
     refuseShort room' (textsOf es o (tablesOf rs) .answers) Refusal.AnswersShort ▹ λ _.
     inr (textsOf es o (tablesOf rs))

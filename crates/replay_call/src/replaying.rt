@@ -3,7 +3,6 @@ use call_answers::ReplayAnswer;
 use inputs::read_both;
 use order_check::check_order;
 use refusals::Outcome;
-use refusals::Refusal;
 use replay_texts::write_both;
 use rows::Rows;
 use trace_events::Trace;
@@ -14,11 +13,11 @@ ghost use Rattle.refusals.specs.Checks.{written};
 ghost use Rattle.trace_events.specs.Events.{eventsOf};
 ghost use Rattle.rows.specs.Rows.{rowsOf, SortedRows};
 ghost use Rattle.replay_texts.specs.Writing.{replayAnswer, tablesOut, answersOut};
-ghost use Rattle.replay_texts.specs.Inner.{Leaves};
+ghost use Rattle.replay_texts.specs.Inner.{fittingBoth, Leaves};
 ghost use Rattle.replay_call.specs.Replay.{replayed};
-ghost use Rattle.replay_call.specs.Inner.{ranFrom, orderedFrom};
+ghost use Rattle.replay_call.specs.Inner.{rowTexts, orderedFrom};
 
-// An accepted order, run from the rows of the tables: 41, 32, 33, or both texts.
+// An accepted order, run from the rows of the tables: 32, 33, or both texts.
 fn run_order(
     t: Trace,
     start: Rows,
@@ -27,15 +26,12 @@ fn run_order(
     answered: &mut [u8],
 ) -> ReplayAnswer
     requires { ⌜ (t .len ≤ 256) × (start .len ≤ 256) × SortedRows (rowsOf start) × (length (now order) ≤ 256) ⌝ }
-    ensures { λ r. ⌜ Leaves (ranFrom (eventsOf t) (rowsOf start) (now (order .entry)) (length (now (out .entry))) (length (now (answered .entry)))) r (now (out .entry)) (now (out .exit)) (now (answered .entry)) (now (answered .exit)) ⌝ }
+    ensures { λ r. ⌜ Leaves (fittingBoth (rowTexts (eventsOf t) (now (order .entry)) (rowsOf start)) (length (now (out .entry))) (length (now (answered .entry)))) r (now (out .entry)) (now (out .exit)) (now (answered .entry)) (now (answered .exit)) ⌝ }
 {
     let n = t.len;
     let ran = order_run::run(t, start, order);
     let rows = ran.rows;
     let answers = ran.answers;
-    if 512 < rows.len {
-        return ReplayAnswer::Refused(Refusal::TooManyEntries);
-    }
     write_both(rows, answers, n, out, answered)
 }
 

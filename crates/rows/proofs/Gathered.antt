@@ -1,21 +1,21 @@
--- Rows in order are the tables of the switches, one after the other, switches rising (`rows-gathered`), and as many as the tables'
--- entries together (`rows-counted`). Assumes nothing.
-use mathlib.Core.Path.{_≡_, refl, sym, _∙_, ap, subst}
+-- Rows in order are the tables of the switches, one after the other, switches rising (`rows-gathered`). The switches hold no more
+-- entries together than there are rows (`tables-held`). Assumes nothing.
+use mathlib.Core.Path.{_≡_, refl, sym, ap, subst}
 use mathlib.Core.List.{List, [], _∷_, _++_, map, List·Memᴰ, List·Memᴰ·head, List·Memᴰ·tail, List·Memᴰ·not-nil, Memᴰ·map, Memᴰ·of-map}
-use Prim.Native.Nat.{ℕ, zero, suc, _≤_, _<_}
+use Prim.Native.Nat.{ℕ, zero, suc, _+_, _≤_, _<_}
 use native.Mathlib.Decide.{decLt}
 use native.Mathlib.Omega.{arith}
-use lib.ListN.{length, length-map}
-use borrow.Author.Tests.{lt-ltb, ne-eqb}
+use lib.ListN.{length}
+use borrow.Author.Tests.{lt-ltb, eq-eqb, ne-eqb}
 use Rattle.flow.specs.Entries.{keyOrder}
 use Rattle.flow.specs.Orders.{orderOf, thenBy}
 use Rattle.flow.proofs.Orders.{number-equal}
-use Rattle.basics.specs.Searches.{gather, sumBelow}
-use Rattle.basics.proofs.Gathered.{in-gather, gather-in, gather-length, sum-same}
+use Rattle.basics.specs.Searches.{gather}
+use Rattle.basics.proofs.Gathered.{in-gather, gather-in, sum-more, sum-none}
 use Rattle.flow_table.specs.FlowTable.{Table, Before, Sorted}
-use Rattle.flow_table.specs.Switches.{Tables, InOrder}
+use Rattle.flow_table.specs.Switches.{Tables, InOrder, entriesHeld}
 use Rattle.rows.specs.Types.{Entry, Ordering, Row}
-use Rattle.rows.specs.Rows.{row, rowOrder, RowBefore, SortedRows, tableOf}
+use Rattle.rows.specs.Rows.{row, rowOrder, RowBefore, SortedRows, tableOf, tablesOf}
 use Rattle.rows.proofs.RowLaws.{same-rows}
 use Rattle.rows.proofs.TablesOf.{sorted-table, row-entry, entry-row}
 
@@ -91,8 +91,16 @@ rows-gathered n rs s none =
         let g = Memᴰ·of-map (row (f .0)) (tableOf (f .0) rs) (f .2) in
         subst (λ (y : Row). List·Memᴰ y rs) (g .2) (entry-row (f .0) (g .0) rs (g .1))
 
--- and as many as these tables have entries
-pub rows-counted : (n : ℕ) (rs : List Row) → SortedRows rs → ((w : ℕ) → n ≤ w → tableOf w rs ≡ []) → length rs ≡ sumBelow (λ w. length (tableOf w rs)) n
-rows-counted n rs s none =
-    ap length (rows-gathered n rs s none) ∙ gather-length (λ w. map (row w) (tableOf w rs)) n
-    ∙ sum-same (λ w. length (map (row w) (tableOf w rs))) (λ w. length (tableOf w rs)) (λ w. length-map (tableOf w rs) (row w)) n
+-- a row is an entry of one switch
+row-held : (n : ℕ) (x : Row) (xs : List Row) → entriesHeld n (tablesOf (x ∷ xs)) ≤ entriesHeld n (tablesOf xs) + 1
+unfolding entriesHeld
+row-held n x xs =
+    sum-more (λ w. length (tableOf w (x ∷ xs))) (λ w. length (tableOf w xs)) (x .switch) 1
+    (λ w ne. rw (ne-eqb w (x .switch) ne) refl)
+    (rw (eq-eqb (x .switch) (x .switch) refl) (omega arith))
+    n
+
+pub tables-held : (n : ℕ) (rs : List Row) → entriesHeld n (tablesOf rs) ≤ length rs
+unfolding entriesHeld
+tables-held n [] = omega (arith, sum-none n)
+tables-held n (x ∷ xs) = omega (arith, row-held n x xs, tables-held n xs)

@@ -15,10 +15,12 @@ use Rattle.text_lines.specs.Lines.{lines}
 use Rattle.text_lines.specs.Limits.{limitOf, Within}
 use Rattle.text_lines.proofs.LimitLaws.{within-limit, limit-within}
 use Rattle.flow_table.specs.FlowTable.{Sorted}
-use Rattle.rows.specs.Rows.{row, SortedRows, tableOf, insertRow, anyRow, sameSlot}
+use Rattle.flow_table.specs.Switches.{entriesHeld}
+use Rattle.rows.specs.Rows.{row, SortedRows, tableOf, tablesOf, insertRow, anyRow, sameSlot}
 use Rattle.rows_sort.specs.Sorting.{sortFrom, sortRows}
 use Rattle.rows.proofs.RowLaws.{length-insert}
 use Rattle.rows.proofs.TablesOf.{sorted-table}
+use Rattle.rows.proofs.Gathered.{tables-held}
 use Rattle.rows_sort.proofs.SortLaws.{InOrder, sort-rows}
 use Rattle.tables_text.specs.Types.{Entry, Refusal, Limit, Row}
 use Rattle.tables_text.specs.TableText.{readTables, Holds, RowInRange}
@@ -105,6 +107,10 @@ module _ (s : List ℕ) (rs : List Row) (e : readTables s ≡ inr rs) where
   -- there are at most 256
   pub accepted-length : length rs ≤ 256
   accepted-length = omega (arith, sorted-length (all .each) rs (all .order), same-length 0 (lines s) (all .each) (all .read), all .within .few)
+
+  -- so at most 256 entries come in, on all switches together
+  pub accepted-held : (n : ℕ) → entriesHeld n (tablesOf rs) ≤ 256
+  accepted-held n = omega (arith, tables-held n rs, accepted-length)
 
   -- each switch's rows are a table in order
   pub accepted-table : (w : ℕ) → Sorted (tableOf w rs)

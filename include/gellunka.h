@@ -59,8 +59,7 @@ extern "C" {
  *              or not 0 where there is no event                    0
  *    53        buffer too short: a byte for each order             bytes needed
  *
- * (41, over 512 entries held, cannot happen.) Of several causes the first in document 01's order of
- * checks is told. Lines and positions count from 0.
+ * Of several causes the first in document 01's order of checks is told. Lines and positions count from 0.
  */
 struct gellunka_refused {
     size_t number; /* document 01's number; 0: nothing is refused, and all fields here are 0 */

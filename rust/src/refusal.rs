@@ -42,8 +42,6 @@ pub enum Reason {
     TablesShort,
     /// 33: the answers' buffer is too short; the place is the number of bytes needed.
     AnswersShort,
-    /// 41: over 512 entries are held, which cannot happen.
-    TooManyEntries,
     /// 51: the page's buffer is too short; the place is the number of bytes needed.
     PageShort,
     /// 52: the length of the orders is not a multiple of the event count, or not 0 where there is no event.
@@ -66,7 +64,7 @@ pub struct Refusal<'a> {
 }
 
 impl Reason {
-    const ALL: [(Reason, usize, &'static str); 23] = [
+    const ALL: [(Reason, usize, &'static str); 22] = [
         (Reason::TraceTooLong, 1, "trace over 65,535 bytes"),
         (Reason::TraceUnended, 2, "last byte of the trace is not LF"),
         (Reason::TraceTooManyLines, 3, "trace over 256 lines"),
@@ -86,7 +84,6 @@ impl Reason {
         (Reason::ListShort, 31, "list buffer too short"),
         (Reason::TablesShort, 32, "tables buffer too short"),
         (Reason::AnswersShort, 33, "answers buffer too short"),
-        (Reason::TooManyEntries, 41, "over 512 entries held"),
         (Reason::PageShort, 51, "page buffer too short"),
         (Reason::OrdersUneven, 52, "length of the orders not a multiple of the event count"),
         (Reason::TrialsShort, 53, "buffer for the orders' results too short"),
@@ -143,6 +140,39 @@ impl ffi::Refused {
 #[cfg(test)]
 mod tests {
     use super::Reason;
+
+    /// The numbers of the specification's refusal table.
+    fn in_specification() -> Vec<usize> {
+        let (_, table) = include_str!("../../docs/SPECIFICATION.md").split_once("## Refusal table").unwrap();
+        let (table, _) = table.split_once("**Order of checks.**").unwrap();
+        let first = |line: &str| line.strip_prefix("| ")?.split(' ').next()?.parse().ok();
+        table.lines().filter_map(first).collect()
+    }
+
+    /// Those of the table in the C header: the numbers that a line begins with.
+    fn in_header() -> Vec<usize> {
+        let (_, table) = include_str!("../../include/gellunka.h").split_once("number    cause").unwrap();
+        let (table, _) = table.split_once("Of several causes").unwrap();
+        let words = |line: &'static str| line.trim_start_matches([' ', '*']).split_whitespace();
+        table.lines().flat_map(|line| words(line).map_while(|word| word.parse().ok())).collect()
+    }
+
+    /// Those of the proved library.
+    fn in_library() -> Vec<usize> {
+        let rows = include_str!("../../crates/refusals/src/refusal.rt").split("=> row(").skip(1);
+        rows.map(|row| row.split_once(',').unwrap().0.parse().unwrap()).collect()
+    }
+
+    /// 41 is no refusal's, and isn't used again.
+    #[test]
+    fn the_numbers_are_those_of_all_tables() {
+        let numbers: Vec<usize> = Reason::ALL.iter().map(|row| row.1).collect();
+        assert_eq!(numbers, in_specification());
+        assert_eq!(numbers, in_header());
+        assert_eq!(numbers, in_library());
+        assert!(numbers.is_sorted_by(|a, b| a < b) && !numbers.contains(&41));
+        assert_eq!(Reason::from_number(41), None);
+    }
 
     #[test]
     fn every_reason_has_its_row() {

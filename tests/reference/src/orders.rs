@@ -33,8 +33,7 @@ pub fn try_orders<'a>(
     let before = happens_before(&events);
     let outcome = |order: &[u8]| {
         let mut tables = tables.clone();
-        let answers =
-            run(&events, order, &mut tables).expect("256 entries, and 256 events that add one each");
+        let answers = run(&events, order, &mut tables);
         (tables, answers)
     };
     let recorded = outcome(&recorded_order(events.len()));

@@ -2,13 +2,10 @@
 
 use crate::causality::{happens_before, EventSet};
 use crate::refusal::{check_room, Refusal};
-use crate::table::{Answer, Table};
+use crate::table::Answer;
 use crate::tables::{normal_text, read_tables, Tables};
 use crate::trace::{read_trace, Event};
 use crate::write;
-
-/// The most entries that replay holds.
-const MAX_ENTRIES: usize = 512;
 
 /// How many bytes were written to each buffer.
 #[derive(Clone, Copy, Debug, PartialEq, Eq)]
@@ -53,7 +50,7 @@ pub(crate) fn outcome<'a>(
     let recorded = recorded_order(events.len());
     let order = order.unwrap_or(&recorded);
     check_order(order, &happens_before(&events))?;
-    let answers = run(&events, order, &mut tables).map_err(|TooMany| Refusal::at(41, 0))?;
+    let answers = run(&events, order, &mut tables);
     Ok((tables, answers))
 }
 
@@ -85,23 +82,16 @@ fn has_each_once(order: &[u8], events: usize) -> bool {
     order.len() == events && (0..events).all(|event| found.contains(event))
 }
 
-/// More than 512 entries would be held.
-#[derive(Debug)]
-pub(crate) struct TooMany;
-
 /// Takes the events from the front of the order, and keeps each answer under its event's number.
-pub(crate) fn run(events: &[Event], order: &[u8], tables: &mut Tables) -> Result<Answers, TooMany> {
+pub(crate) fn run(events: &[Event], order: &[u8], tables: &mut Tables) -> Answers {
     let mut answers = vec![None; events.len()];
     for &number in order {
         let number = usize::from(number);
         if let Some((switch, operation)) = events[number].on_table() {
             answers[number] = tables[usize::from(switch)].apply(operation);
         }
-        if tables.iter().map(Table::len).sum::<usize>() > MAX_ENTRIES {
-            return Err(TooMany);
-        }
     }
-    Ok(answers)
+    answers
 }
 
 /// Puts the answer lines, by rising event, to the end of a text.

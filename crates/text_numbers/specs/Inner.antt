@@ -4,6 +4,7 @@ use mathlib.Core.List.{List}
 use mathlib.Core.Option.{Option, none, some}
 use lib.ListN.{length}
 use Rattle.text_numbers.specs.declared.read.Number.{Number}
+use Rattle.text_numbers.specs.declared.read.Long.{Long}
 use Rattle.text_numbers.specs.declared.read.Hex.{Hex}
 use mathlib.Core.Path.{_≡_}
 use lib.Seq.{sets}
@@ -12,6 +13,10 @@ use lib.Seq.{sets}
 abbrev pub asNumber : Number → Option (ℕ × ℕ)
 asNumber (Number.Read v n) = some (v, n)
 asNumber Number.Bad = none
+
+abbrev pub asLong : Long → Option (ℕ × ℕ)
+asLong (Long.Read v n) = some (v, n)
+asLong Long.Bad = none
 
 abbrev pub asHex : Hex → Option (ℕ × ℕ)
 asHex (Hex.Read v n) = some (v, n)

@@ -5,11 +5,17 @@ ghost use mathlib.Core.Path.{_≡_};
 ghost use lib.ListN.{drop};
 ghost use Rattle.text_numbers.specs.Reading.{keyed};
 ghost use Rattle.text_numbers.specs.Number.{isDigit, readDigits, readNumber, hexValue, readHex};
-ghost use Rattle.text_numbers.specs.Inner.{asNumber, asHex};
+ghost use Rattle.text_numbers.specs.Inner.{asNumber, asLong, asHex};
 
-// A number that was read and the place after it, or no such number.
+// A number of up to 16 bits that was read and the place after it, or no such number.
 pub enum Number {
     Read { value: u16, next: usize },
+    Bad,
+}
+
+// The same, of up to 32 bits.
+pub enum Long {
+    Read { value: u32, next: usize },
     Bad,
 }
 
@@ -26,8 +32,8 @@ fn is_digit(b: u8) -> bool
 }
 
 // The digits from a place on; none as soon as their value is above max.
-fn read_digits(s: &[u8], at: usize, max: u16) -> Number
-    ensures { λ r. ⌜ asNumber r ≡ readDigits max 0 (drop at (now (s .entry))) at ⌝ }
+fn read_digits(s: &[u8], at: usize, max: u32) -> Long
+    ensures { λ r. ⌜ asLong r ≡ readDigits max 0 (drop at (now (s .entry))) at ⌝ }
 {
     let m = max as u64;
     let mut v: u64 = 0;
@@ -37,25 +43,25 @@ fn read_digits(s: &[u8], at: usize, max: u16) -> Number
         if is_digit(b) {
             v = v * 10 + (b - b'0') as u64;
             if m < v {
-                return Number::Bad;
+                return Long::Bad;
             }
             i = i + 1;
         } else {
-            return Number::Read {
-                value: v as u16,
+            return Long::Read {
+                value: v as u32,
                 next: i,
             };
         }
     }
-    Number::Read {
-        value: v as u16,
+    Long::Read {
+        value: v as u32,
         next: i,
     }
 }
 
 // A decimal number without leading zeros, at most max.
-pub fn read_number(s: &[u8], at: usize, max: u16) -> Number
-    ensures { λ r. ⌜ asNumber r ≡ readNumber max (now (s .entry)) at ⌝ }
+pub fn read_long(s: &[u8], at: usize, max: u32) -> Long
+    ensures { λ r. ⌜ asLong r ≡ readNumber max (now (s .entry)) at ⌝ }
 {
     let first = byte_at(s, at);
     if is_digit(first) {
@@ -63,13 +69,26 @@ pub fn read_number(s: &[u8], at: usize, max: u16) -> Number
             let next = at + 1;
             let second = byte_at(s, next);
             if is_digit(second) {
-                return Number::Bad;
+                return Long::Bad;
             }
-            return Number::Read { value: 0, next };
+            return Long::Read { value: 0, next };
         }
         return read_digits(s, at, max);
     }
-    Number::Bad
+    Long::Bad
+}
+
+// The same, of up to 16 bits.
+pub fn read_number(s: &[u8], at: usize, max: u16) -> Number
+    ensures { λ r. ⌜ asNumber r ≡ readNumber max (now (s .entry)) at ⌝ }
+{
+    let Long::Read { value, next } = read_long(s, at, max as u32) else {
+        return Number::Bad;
+    };
+    Number::Read {
+        value: value as u16,
+        next,
+    }
 }
 
 // The value of a lowercase hexadecimal digit, 16 for any other byte.
@@ -105,7 +124,7 @@ pub fn read_hex(s: &[u8], at: usize) -> Hex
     Hex::Read { value: v, next: n }
 }
 
-// A key, and then a number.
+// A key, and then a number of up to 16 bits.
 pub fn number_at(s: &[u8], at: usize, key: &[u8], max: u16) -> Number
     ensures { λ r. ⌜ asNumber r ≡ keyed (now (key .entry)) (readNumber max) (now (s .entry)) at ⌝ }
 {
@@ -113,6 +132,16 @@ pub fn number_at(s: &[u8], at: usize, key: &[u8], max: u16) -> Number
         return read_number(s, at + key.len(), max);
     }
     Number::Bad
+}
+
+// A key, and then a number of up to 32 bits.
+pub fn long_at(s: &[u8], at: usize, key: &[u8], max: u32) -> Long
+    ensures { λ r. ⌜ asLong r ≡ keyed (now (key .entry)) (readNumber max) (now (s .entry)) at ⌝ }
+{
+    if starts_with(s, at, key) {
+        return read_long(s, at + key.len(), max);
+    }
+    Long::Bad
 }
 
 // A key, and then eight hexadecimal digits.

@@ -26,11 +26,11 @@ ghost use Rattle.trials_call.specs.Tried.{tried, trialsAnswer};
 // The listed pairs of a trace, two bytes each, from the buffer's start. The bytes after them, or all after a refusal, stay as they
 // were.
 #[no_mangle]
-pub extern "C" fn gellunka_list_races(trace: &[u8], out: &mut [u8]) -> Listed
-    ensures { λ r. ⌜ r ≡ listAs (now (trace .entry)) (listAnswer (listRaces (now (trace .entry)) (length (now (out .entry))))) ⌝ }
-    ensures { λ _. ⌜ now (out .exit) ≡ written (listOut (listRaces (now (trace .entry)) (length (now (out .entry))))) (now (out .entry)) ⌝ }
+pub extern "C" fn gellunka_list_races(trace: &[u8], delay: u32, out: &mut [u8]) -> Listed
+    ensures { λ r. ⌜ r ≡ listAs (now (trace .entry)) (listAnswer (listRaces delay (now (trace .entry)) (length (now (out .entry))))) ⌝ }
+    ensures { λ _. ⌜ now (out .exit) ≡ written (listOut (listRaces delay (now (trace .entry)) (length (now (out .entry))))) (now (out .entry)) ⌝ }
 {
-    let answer = list_call::list_races(trace, out);
+    let answer = list_call::list_races(trace, delay, out);
     list_as(trace, answer)
 }
 
@@ -46,20 +46,20 @@ pub extern "C" fn gellunka_normalise(tables: &[u8], out: &mut [u8]) -> Normalise
 
 // The page of a trace's list, from the buffer's start. The bytes after it, or all after a refusal, stay as they were.
 #[no_mangle]
-pub extern "C" fn gellunka_page(trace: &[u8], out: &mut [u8]) -> Paged
-    ensures { λ r. ⌜ r ≡ pageAs (now (trace .entry)) (pageAnswer (paged (now (trace .entry)) (length (now (out .entry))))) ⌝ }
-    ensures { λ _. ⌜ now (out .exit) ≡ written (paged (now (trace .entry)) (length (now (out .entry)))) (now (out .entry)) ⌝ }
+pub extern "C" fn gellunka_page(trace: &[u8], delay: u32, out: &mut [u8]) -> Paged
+    ensures { λ r. ⌜ r ≡ pageAs (now (trace .entry)) (pageAnswer (paged delay (now (trace .entry)) (length (now (out .entry))))) ⌝ }
+    ensures { λ _. ⌜ now (out .exit) ≡ written (paged delay (now (trace .entry)) (length (now (out .entry)))) (now (out .entry)) ⌝ }
 {
-    let answer = page_call::page(trace, out);
+    let answer = page_call::page(trace, delay, out);
     page_as(trace, answer)
 }
 
 // How many of 1,000 unordered pairs of a trace commute, with what is left over.
 #[no_mangle]
-pub extern "C" fn gellunka_share(trace: &[u8]) -> Shared
-    ensures { λ r. ⌜ r ≡ shareAs (now (trace .entry)) (shareAnswer (shared (now (trace .entry)))) ⌝ }
+pub extern "C" fn gellunka_share(trace: &[u8], delay: u32) -> Shared
+    ensures { λ r. ⌜ r ≡ shareAs (now (trace .entry)) (shareAnswer (shared delay (now (trace .entry)))) ⌝ }
 {
-    let answer = share_call::share(trace);
+    let answer = share_call::share(trace, delay);
     share_as(trace, answer)
 }
 
@@ -70,14 +70,15 @@ pub extern "C" fn gellunka_replay<'a>(
     trace: &'a [u8],
     tables: &'a [u8],
     order: &[u8],
+    delay: u32,
     out: &mut [u8],
     answered: &mut [u8],
 ) -> Replayed
-    ensures { λ r. ⌜ r ≡ replayAs (now (trace .entry)) (now (tables .entry)) (replayAnswer (replayed (now (trace .entry)) (now (tables .entry)) (now (order .entry)) (length (now (out .entry))) (length (now (answered .entry))))) ⌝ }
-    ensures { λ _. ⌜ now (out .exit) ≡ written (tablesOut (replayed (now (trace .entry)) (now (tables .entry)) (now (order .entry)) (length (now (out .entry))) (length (now (answered .entry))))) (now (out .entry)) ⌝ }
-    ensures { λ _. ⌜ now (answered .exit) ≡ written (answersOut (replayed (now (trace .entry)) (now (tables .entry)) (now (order .entry)) (length (now (out .entry))) (length (now (answered .entry))))) (now (answered .entry)) ⌝ }
+    ensures { λ r. ⌜ r ≡ replayAs (now (trace .entry)) (now (tables .entry)) (replayAnswer (replayed delay (now (trace .entry)) (now (tables .entry)) (now (order .entry)) (length (now (out .entry))) (length (now (answered .entry))))) ⌝ }
+    ensures { λ _. ⌜ now (out .exit) ≡ written (tablesOut (replayed delay (now (trace .entry)) (now (tables .entry)) (now (order .entry)) (length (now (out .entry))) (length (now (answered .entry))))) (now (out .entry)) ⌝ }
+    ensures { λ _. ⌜ now (answered .exit) ≡ written (answersOut (replayed delay (now (trace .entry)) (now (tables .entry)) (now (order .entry)) (length (now (out .entry))) (length (now (answered .entry))))) (now (answered .entry)) ⌝ }
 {
-    let answer = replay_call::replay(trace, tables, order, out, answered);
+    let answer = replay_call::replay(trace, tables, order, delay, out, answered);
     replay_as(trace, tables, answer)
 }
 
@@ -88,11 +89,12 @@ pub extern "C" fn gellunka_try_orders<'a>(
     trace: &'a [u8],
     tables: &'a [u8],
     orders: &[u8],
+    delay: u32,
     out: &mut [u8],
 ) -> Tried
-    ensures { λ r. ⌜ r ≡ trialsAs (now (trace .entry)) (now (tables .entry)) (trialsAnswer (tried (now (trace .entry)) (now (tables .entry)) (now (orders .entry)) (length (now (out .entry))))) ⌝ }
-    ensures { λ _. ⌜ now (out .exit) ≡ written (tried (now (trace .entry)) (now (tables .entry)) (now (orders .entry)) (length (now (out .entry)))) (now (out .entry)) ⌝ }
+    ensures { λ r. ⌜ r ≡ trialsAs (now (trace .entry)) (now (tables .entry)) (trialsAnswer (tried delay (now (trace .entry)) (now (tables .entry)) (now (orders .entry)) (length (now (out .entry))))) ⌝ }
+    ensures { λ _. ⌜ now (out .exit) ≡ written (tried delay (now (trace .entry)) (now (tables .entry)) (now (orders .entry)) (length (now (out .entry)))) (now (out .entry)) ⌝ }
 {
-    let answer = trials_call::try_orders(trace, tables, orders, out);
+    let answer = trials_call::try_orders(trace, tables, orders, delay, out);
     trials_as(trace, tables, answer)
 }

@@ -7,24 +7,21 @@ use mathlib.Core.Logic.{inl, inr}
 use mathlib.Core.Bool.{true}
 use mathlib.Core.List.{List}
 use lib.ListN.{length}
-use borrow.Author.Tests.{lt-ltb}
-use Rattle.basics.proofs.Booleans.{and-intro}
 use Rattle.trace_events.specs.Events.{eventAt}
 use Rattle.trace_events.specs.Precedence.{Among, BarrierJoins}
-use Rattle.trace_events.proofs.Precedes.{precedes-iff}
+use Rattle.happens_before.proofs.Direct.{direct-iff}
 use Rattle.happens_before.specs.Types.{Operation, Event}
-use Rattle.happens_before.specs.Causality.{step, Chain, link, onward}
+use Rattle.happens_before.specs.Causality.{direct, Chain, link, onward}
 
-module _ (es : List Event) where
-  joined : (i j : ℕ) → i < j → j < length es → BarrierJoins (eventAt es i .operation) (eventAt es j .operation) → step es i j ≡ true
-  unfolding step
-  joined i j l m h = and-intro (lt-ltb i j l) (and-intro (lt-ltb j (length es) m) (precedes-iff (eventAt es i) (eventAt es j) .1 (inr h)))
+module _ (delay : ℕ) (es : List Event) where
+  joined : (i j : ℕ) → i < j → j < length es → BarrierJoins (eventAt es i .operation) (eventAt es j .operation) → direct delay es i j ≡ true
+  joined i j l m h = direct-iff delay es i j .1 (record { first = omega (arith, l, m); second = m; by = inl (l, inr h) })
 
   module _ (w i j k : ℕ) (bar : eventAt es j .operation ≡ Operation.Barrier w) where
     is-among : Among w (eventAt es j .operation)
     is-among = subst (Among w) (sym bar) Among.bar
 
-    pub barrier-between : i < j → j < k → k < length es → Among w (eventAt es i .operation) → Among w (eventAt es k .operation) → Chain (step es) i k
+    pub barrier-between : i < j → j < k → k < length es → Among w (eventAt es i .operation) → Among w (eventAt es k .operation) → Chain (direct delay es) i k
     barrier-between l m n a b =
         onward
         (link (joined i j l (omega (arith, m, n)) (record { switch = w; first = a; second = is-among; one-is-bar = inr bar })))

@@ -1,4 +1,5 @@
 pub mod Chains
+pub mod Direct
 pub mod Barriers
 pub mod RowLaws
 pub mod SideNotes

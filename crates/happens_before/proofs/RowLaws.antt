@@ -14,7 +14,7 @@ use Rattle.bit_sets.specs.Inner.{member}
 use Rattle.bit_sets.proofs.Members.{member-none, member-nil}
 use Rattle.trace_events.specs.Events.{eventsOf, noEvent}
 use Rattle.basics.specs.Searches.{anyBelow}
-use Rattle.trace_events.specs.Precedence.{precedes}
+use Rattle.trace_events.specs.Inner.{precedes}
 use Rattle.trace_events.proofs.TraceLaws.{length-events, event-at}
 use Rattle.happens_before.specs.Types.{Event, Trace}
 use Rattle.happens_before.specs.Causality.{step, before, through}
@@ -22,49 +22,49 @@ use Rattle.happens_before.specs.Inner.{noMembers, bit, HappensBefore}
 use Rattle.happens_before.proofs.Chains.{before-end}
 
 -- the rows of the events below n are filled, and the others are empty
-abbrev pub Filled : List Event → ℕ → List (List ℕ) → Type 0
-Filled es n rows = (i j : ℕ) → bit rows i j ≡ (ltb j n && before es i j)
+abbrev pub Filled : ℕ → List Event → ℕ → List (List ℕ) → Type 0
+Filled delay es n rows = (i j : ℕ) → bit rows i j ≡ (ltb j n && before delay es i j)
 
 -- a step between two lines of a trace, as its array holds them
-pub step-at : (t : Trace) → t .len ≤ length (t .events) → (i j : ℕ) → i < j → j < t .len
-    → step (eventsOf t) i j ≡ precedes (getD (t .events) i noEvent) (getD (t .events) j noEvent)
+pub step-at : (delay : ℕ) (t : Trace) → t .len ≤ length (t .events) → (i j : ℕ) → i < j → j < t .len
+    → step delay (eventsOf t) i j ≡ precedes delay (getD (t .events) i noEvent) (getD (t .events) j noEvent)
 unfolding step
-step-at t h i j l m =
+step-at delay t h i j l m =
     simp (lt-ltb i j l, lt-ltb j (length (eventsOf t)) (omega (arith, length-events t h)))
-    (ap₂ precedes (event-at t i (omega arith)) (event-at t j m))
+    (ap₂ (precedes delay) (event-at t i (omega arith)) (event-at t j m))
 
 -- a turn of filling the row of j: event k, with its row, where it directly precedes j
-pub joined : (es : List Event) (i j k : ℕ) {x y z p : Bool} → x ≡ (y || (p && (eqb i k || z))) → y ≡ anyBelow (through es i j) k
-    → p ≡ step es k j → z ≡ before es i k → x ≡ anyBelow (through es i j) (k + 1)
-joined es i j k e f g h = rw add-one (cc)
+pub joined : (delay : ℕ) (es : List Event) (i j k : ℕ) {x y z p : Bool} → x ≡ (y || (p && (eqb i k || z))) → y ≡ anyBelow (through delay es i j) k
+    → p ≡ step delay es k j → z ≡ before delay es i k → x ≡ anyBelow (through delay es i j) (k + 1)
+joined delay es i j k e f g h = rw add-one (cc)
 
-module _ (es : List Event) (rows : List (List ℕ)) (n : ℕ) where
+module _ (delay : ℕ) (es : List Event) (rows : List (List ℕ)) (n : ℕ) where
   -- a filled row
-  pub filled-at : Filled es n rows → (i j : ℕ) → j < n → member (getD rows j []) i ≡ before es i j
+  pub filled-at : Filled delay es n rows → (i j : ℕ) → j < n → member (getD rows j []) i ≡ before delay es i j
   unfolding bit
   filled-at f i j l = rw (lt-ltb j n l) at (f i j)
 
   -- a row more
-  pub filled-more : (row : List ℕ) → n < length rows → Filled es n rows → ((i : ℕ) → member row i ≡ before es i n) → Filled es (n + 1) (set rows n row)
+  pub filled-more : (row : List ℕ) → n < length rows → Filled delay es n rows → ((i : ℕ) → member row i ≡ before delay es i n) → Filled delay es (n + 1) (set rows n row)
   unfolding bit
   filled-more row l f here i j =
       elim (ℕ-discrete j n) [
         | yes e ↦ rw (e, getD-set-same rows n row [] l, lt-ltb n (n + 1) (omega arith)) (here i)
-        | no ne ↦ rw (getD-set-other rows n j row [] ne) (f i j ∙ ap (λ b. b && before es i j) (same ne))
+        | no ne ↦ rw (getD-set-other rows n j row [] ne) (f i j ∙ ap (λ b. b && before delay es i j) (same ne))
       ]
     where
       same : (j ≡ n → ⊥) → ltb j n ≡ ltb j (n + 1)
       same ne = elim (decLt j n) [ yes m ↦ lt-ltb j n m ∙ sym (lt-ltb j (n + 1) (omega arith)) | no ge ↦ le-ltb j n (omega arith) ∙ sym (le-ltb j (n + 1) (omega arith)) ]
 
   -- all rows of a trace
-  pub filled-all : length es ≡ n → Filled es n rows → HappensBefore es rows
+  pub filled-all : length es ≡ n → Filled delay es n rows → HappensBefore delay es rows
   filled-all e f i j =
-      elim (decLt j n) [ yes m ↦ rw (lt-ltb j n m) at (f i j) | no ge ↦ f i j ∙ (rw (le-ltb j n (omega arith), before-end es i j (omega arith)) refl) ]
+      elim (decLt j n) [ yes m ↦ rw (lt-ltb j n m) at (f i j) | no ge ↦ f i j ∙ (rw (le-ltb j n (omega arith), before-end delay es i j (omega arith)) refl) ]
 
 -- no row
-pub filled-none : (es : List Event) (n : ℕ) → Filled es 0 (replicate n noMembers)
+pub filled-none : (delay : ℕ) (es : List Event) (n : ℕ) → Filled delay es 0 (replicate n noMembers)
 unfolding bit
-filled-none es n i j = rw (le-ltb j 0 (omega arith)) (none (decLt j n))
+filled-none delay es n i j = rw (le-ltb j 0 (omega arith)) (none (decLt j n))
   where
     none : Dec (j < n) → member (getD (replicate n noMembers) j []) i ≡ false
     none (yes m) = ap (λ row. member row i) (getD-replicate n j noMembers [] m) ∙ member-none 4 i

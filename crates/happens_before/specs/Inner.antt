@@ -2,7 +2,8 @@
 use mathlib.Core.Path.{_≡_}
 use mathlib.Core.Bool.{Bool, not, _&&_, _||_, cond}
 use mathlib.Core.List.{List, [], _∷_}
-use Prim.Native.Nat.{ℕ}
+use Prim.Native.Nat.{ℕ, _+_}
+use lib.Dec.{ltb}
 use lib.ListN.{getD}
 use Rattle.basics.specs.Searches.{anyBelow}
 use Rattle.bit_sets.specs.Inner.{wordBit, member}
@@ -22,9 +23,10 @@ unfoldable pub bit : List (List ℕ) → ℕ → ℕ → Bool
 bit rows i j = member (getD rows j []) i
 
 -- the rows hold happens-before
-abbrev pub HappensBefore : List Event → List (List ℕ) → Type 0
-HappensBefore es rows = (i j : ℕ) → bit rows i j ≡ before es i j
+abbrev pub HappensBefore : ℕ → List Event → List (List ℕ) → Type 0
+HappensBefore delay es rows = (i j : ℕ) → bit rows i j ≡ before delay es i j
 
--- where the search for the direct predecessors of event j begins, by the side of j and whether an earlier event is a barrier
-unfoldable pub searchFrom : Side → Bool → ℕ → ℕ
-searchFrom later barred j = cond (later .takes || (barred || later .barrier)) 0 j
+-- where the search for the direct predecessors of event j begins, by the side of j, whether an earlier event is a barrier, and the
+-- earliest `to` of the earlier events that switches handle
+unfoldable pub searchFrom : ℕ → Side → Bool → ℕ → ℕ → ℕ
+searchFrom delay later barred earliest j = cond (later .takes || (barred || later .barrier) || ltb (earliest + delay) (later .from)) 0 j

@@ -7,9 +7,9 @@ use Rattle.trace_text.specs.TraceText.{readTrace}
 use Rattle.tables_text.specs.TableText.{readTables}
 use Rattle.inputs.specs.Types.{Event, Row}
 
--- the events and the rows, or the first refusal: 1 to 8; 11 to 16
-unfoldable pub readBoth : List ℕ → List ℕ → Checked (List Event × List Row)
-readBoth trace tables =
-    readTrace trace ▹ λ es.
+-- the events and the rows, or the first refusal: 1 to 8, 54, 55; 11 to 16
+unfoldable pub readBoth : ℕ → List ℕ → List ℕ → Checked (List Event × List Row)
+readBoth delay trace tables =
+    readTrace delay trace ▹ λ es.
     readTables tables ▹ λ rs.
     inr (es, rs)

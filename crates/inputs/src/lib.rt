@@ -23,11 +23,11 @@ pub struct Inputs {
 }
 
 // Both texts, or the first refusal: of the trace, then of the tables.
-pub fn read_both(trace: &[u8], tables: &[u8]) -> Inputs
-    ensures { λ r. ⌜ (asInputs r ≡ readBoth (now (trace .entry)) (now (tables .entry))) × (r .trace .len ≤ 256) × (r .rows .len ≤ 256)
-        × (eventsOf (r .trace) ≡ valueOr [] (readTrace (now (trace .entry)))) × (rowsOf (r .rows) ≡ valueOr [] (readTables (now (tables .entry)))) ⌝ }
+pub fn read_both(trace: &[u8], tables: &[u8], delay: u32) -> Inputs
+    ensures { λ r. ⌜ (asInputs r ≡ readBoth delay (now (trace .entry)) (now (tables .entry))) × (r .trace .len ≤ 256) × (r .rows .len ≤ 256)
+        × (eventsOf (r .trace) ≡ valueOr [] (readTrace delay (now (trace .entry)))) × (rowsOf (r .rows) ≡ valueOr [] (readTables (now (tables .entry)))) ⌝ }
 {
-    let traced = trace_text::read_trace(trace);
+    let traced = trace_text::read_trace(trace, delay);
     let tabled = tables_text::read_tables(tables);
     let first = traced.outcome;
     let second = tabled.outcome;

@@ -19,41 +19,41 @@ use Rattle.list_call.specs.Races.{listRaces, listAnswer, listOut}
 use Rattle.list_call.specs.Inner.{fitted, Lists}
 
 -- ---- the list in a buffer of its own
-module _ (es : List Event) (c : Counts) (bytes : List ℕ) (h : HoldsList es c bytes) where
-  needed-is : 2 * c .listed ≡ length (pairBytes (listOf es))
-  needed-is = sym (length-take-le (2 * c .listed) bytes (h .within)) ∙ ap length (list-is es c bytes h)
+module _ (delay : ℕ) (es : List Event) (c : Counts) (bytes : List ℕ) (h : HoldsList delay es c bytes) where
+  needed-is : 2 * c .listed ≡ length (pairBytes (listOf delay es))
+  needed-is = sym (length-take-le (2 * c .listed) bytes (h .within)) ∙ ap length (list-is delay es c bytes h)
 
   module _ (old : List ℕ) where
-    pub list-short : length old < 2 * c .listed → Lists (fitted es (length old)) (ListAnswer.Refused (Refusal.ListShort (2 * c .listed))) old old
+    pub list-short : length old < 2 * c .listed → Lists (fitted delay es (length old)) (ListAnswer.Refused (Refusal.ListShort (2 * c .listed))) old old
     unfolding fitted
     list-short l =
-        let t = short-refused (length old) (pairBytes (listOf es)) Refusal.ListShort (omega (arith, needed-is)) in
+        let t = short-refused (length old) (pairBytes (listOf delay es)) Refusal.ListShort (omega (arith, needed-is)) in
         rw t (record { answer = ap (λ (n : ℕ). ListAnswer.Refused (Refusal.ListShort n)) needed-is; buffer = refl })
 
     pub list-done : (src out : List ℕ) → 2 * c .listed ≤ length old → src ≡ take (2 * c .listed) bytes → out ≡ take (length src) src ++ drop (length src) old
-        → Lists (fitted es (length old)) (ListAnswer.Counts c) old out
+        → Lists (fitted delay es (length old)) (ListAnswer.Counts c) old out
     unfolding fitted listingOf
     list-done src out m s o =
-        let t = short-passed (length old) (pairBytes (listOf es)) Refusal.ListShort (omega (arith, needed-is)) in
-        let w : src ≡ pairBytes (listOf es) = s ∙ list-is es c bytes h in
+        let t = short-passed (length old) (pairBytes (listOf delay es)) Refusal.ListShort (omega (arith, needed-is)) in
+        let w : src ≡ pairBytes (listOf delay es) = s ∙ list-is delay es c bytes h in
         rw t (record {
-          answer = ap ListAnswer.Counts (counts-are es c bytes h);
+          answer = ap ListAnswer.Counts (counts-are delay es c bytes h);
           buffer = o ∙ ap (λ (x : List ℕ). x ++ drop (length src) old) (take-all (length src) src (omega arith)) ∙ ap (λ (x : List ℕ). startingWith x old) w;
         })
 
 -- ---- the call on a text, by the outcome of reading it
-module _ (text : List ℕ) (read : TraceRead) (e : asTrace read ≡ readTrace text) (old : List ℕ) where
+module _ (delay : ℕ) (text : List ℕ) (read : TraceRead) (e : asTrace read ≡ readTrace delay text) (old : List ℕ) where
   -- an answer and a buffer that are as the call leaves them
   abbrev pub Called : ListAnswer → List ℕ → Type 0
-  Called r out = (r ≡ listAnswer (listRaces text (length old))) × (out ≡ written (listOut (listRaces text (length old))) old)
+  Called r out = (r ≡ listAnswer (listRaces delay text (length old))) × (out ≡ written (listOut (listRaces delay text (length old))) old)
 
-  called : {y : Checked Listing} {r : ListAnswer} {out : List ℕ} → y ≡ listRaces text (length old) → Lists y r old out → Called r out
+  called : {y : Checked Listing} {r : ListAnswer} {out : List ℕ} → y ≡ listRaces delay text (length old) → Lists y r old out → Called r out
   called g l = (l .answer ∙ ap listAnswer g, l .buffer ∙ ap (λ (y : Checked Listing). written (listOut y) old) g)
 
   pub call-refused : (r : Refusal) → read .outcome ≡ Outcome.Refused r → Called (ListAnswer.Refused r) old
   unfolding listRaces fitted
-  call-refused r f = called (on-refused _ (eventsOf (read .trace)) (λ es. fitted es (length old)) e f) (record { answer = refl; buffer = refl })
+  call-refused r f = called (on-refused _ (eventsOf (read .trace)) (λ es. fitted delay es (length old)) e f) (record { answer = refl; buffer = refl })
 
-  pub call-accepted : {r : ListAnswer} {out : List ℕ} → read .outcome ≡ Outcome.Accepted → Lists (fitted (eventsOf (read .trace)) (length old)) r old out → Called r out
+  pub call-accepted : {r : ListAnswer} {out : List ℕ} → read .outcome ≡ Outcome.Accepted → Lists (fitted delay (eventsOf (read .trace)) (length old)) r old out → Called r out
   unfolding listRaces fitted
-  call-accepted f l = called (on-accepted _ (eventsOf (read .trace)) (λ es. fitted es (length old)) e f) l
+  call-accepted f l = called (on-accepted _ (eventsOf (read .trace)) (λ es. fitted delay es (length old)) e f) l

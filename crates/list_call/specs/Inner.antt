@@ -9,10 +9,10 @@ use Rattle.list_call.specs.Types.{Event, Refusal, ListAnswer}
 use Rattle.list_call.specs.Races.{listAnswer, listOut}
 
 -- 31, of the events of an accepted trace
-unfoldable pub fitted : List Event → ℕ → Checked Listing
-fitted es room =
-    refuseShort room (pairBytes (listOf es)) Refusal.ListShort ▹ λ _.
-    inr (listingOf es)
+unfoldable pub fitted : ℕ → List Event → ℕ → Checked Listing
+fitted delay es room =
+    refuseShort room (pairBytes (listOf delay es)) Refusal.ListShort ▹ λ _.
+    inr (listingOf delay es)
 
 -- an answer and a buffer, before and after, are as the list call leaves them
 pub record Lists (y : Checked Listing) (r : ListAnswer) (old new : List ℕ) : Type 0 where

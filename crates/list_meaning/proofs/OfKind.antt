@@ -17,7 +17,8 @@ use Rattle.commuting.specs.Inner.{witness}
 use Rattle.commuting.proofs.Theorems.{told, commutes-iff}
 use Rattle.trace_events.specs.Events.{eventAt}
 use Rattle.happens_before.specs.Causality.{before}
-use Rattle.happens_before.proofs.Chains.{before-iff, chain-later}
+use Rattle.trace_events.specs.Clocks.{InLineOrder}
+use Rattle.happens_before.proofs.Direct.{before-direct, direct-later}
 use Rattle.list_verdicts.specs.Kinds.{Kind, pairs, ordered, commuting, listed, paired, isKind}
 use Rattle.list_pairs.specs.List.{test, ofKind}
 use Rattle.list_pairs.specs.Counting.{onTable}
@@ -58,7 +59,7 @@ differ-iff v w a b = (
   λ d. refuted (commutes v w) (λ e. d .apart (commutes-iff v w .0 e (d .table) (d .sorted))),
 )
 
-module _ (es : List Event) (i j : ℕ) where
+module _ (delay : ℕ) (es : List Event) (clocks : InLineOrder delay es) (i j : ℕ) where
   one-table : i < j → j < length es → paired (eventAt es i .operation) (eventAt es j .operation) ≡ true → OneTable es i j
   unfolding paired
   one-table l m h =
@@ -82,17 +83,17 @@ module _ (es : List Event) (i j : ℕ) where
   unfolding paired
   table-paired p = rw (p .lower-is, p .higher-is) (eq-eqb (p .switch) (p .switch) refl)
 
-  ordered-iff : i < j → (before es i j ≡ true) ↔ Ordered es i j
-  ordered-iff l = (λ e. inl (before-iff es i j .0 e), back)
+  ordered-iff : i < j → (before delay es i j ≡ true) ↔ Ordered delay es i j
+  ordered-iff l = (λ e. inl (before-direct delay es clocks i j .0 e), back)
     where
-      back : Ordered es i j → before es i j ≡ true
-      back (inl c) = before-iff es i j .1 c
-      back (inr c) = absurd (omega (arith, l, chain-later es c .0))
+      back : Ordered delay es i j → before delay es i j ≡ true
+      back (inl c) = before-direct delay es clocks i j .1 c
+      back (inr c) = absurd (omega (arith, l, direct-later delay es clocks c .0))
 
-  unordered-iff : i < j → (not (before es i j) ≡ true) ↔ (Ordered es i j → ⊥)
+  unordered-iff : i < j → (not (before delay es i j) ≡ true) ↔ (Ordered delay es i j → ⊥)
   unordered-iff l = (
-    λ h o. true≢false (sym (ordered-iff l .1 o) ∙ not-true (before es i j) h),
-    λ h. refuted (before es i j) (λ e. h (ordered-iff l .0 e)),
+    λ h o. true≢false (sym (ordered-iff l .1 o) ∙ not-true (before delay es i j) h),
+    λ h. refuted (before delay es i j) (λ e. h (ordered-iff l .0 e)),
   )
 
   -- what the operations do is what the table operations do
@@ -105,28 +106,28 @@ module _ (es : List Event) (i j : ℕ) where
         → (not (commutes (tableEffect (p .first)) (tableEffect (p .second))) ≡ true) ↔ Differ (tableEffect (p .first)) (tableEffect (p .second))
     differ-here p = differ-iff (tableEffect (p .first)) (tableEffect (p .second)) (rw (p .lower-is) at (ranges i)) (rw (p .higher-is) at (ranges j))
 
-    from-test : (k : Kind) → i < j → j < length es → isKind k (eventAt es i .operation) (eventAt es j .operation) (before es i j) ≡ true → OfKind k es i j
+    from-test : (k : Kind) → i < j → j < length es → isKind k (eventAt es i .operation) (eventAt es j .operation) (before delay es i j) ≡ true → OfKind delay k es i j
     from-test pairs l m h = one-table l m h
     from-test ordered l m h =
         let a = paired (eventAt es i .operation) (eventAt es j .operation) in
-        let b = before es i j in
+        let b = before delay es i j in
         (one-table l m (and-left a b h), ordered-iff l .0 (and-right a b h))
     from-test commuting l m h =
         let a = paired (eventAt es i .operation) (eventAt es j .operation) in
-        let b = before es i j in
+        let b = before delay es i j in
         let c = commutes (effectOf (eventAt es i .operation)) (effectOf (eventAt es j .operation)) in
         let p = one-table l m (and-left a (not b && c) h) in
         let rest = and-right a (not b && c) h in
         (p, unordered-iff l .0 (and-left (not b) c rest), commutes-iff _ _ .0 (sym (same-commutes p) ∙ and-right (not b) c rest))
     from-test listed l m h =
         let a = paired (eventAt es i .operation) (eventAt es j .operation) in
-        let b = before es i j in
+        let b = before delay es i j in
         let c = commutes (effectOf (eventAt es i .operation)) (effectOf (eventAt es j .operation)) in
         let p = one-table l m (and-left a (not b && not c) h) in
         let rest = and-right a (not b && not c) h in
         (p, unordered-iff l .0 (and-left (not b) (not c) rest), differ-here p .0 (sym (ap not (same-commutes p)) ∙ and-right (not b) (not c) rest))
 
-    to-test : (k : Kind) → OfKind k es i j → (i < j) × (j < length es) × (isKind k (eventAt es i .operation) (eventAt es j .operation) (before es i j) ≡ true)
+    to-test : (k : Kind) → OfKind delay k es i j → (i < j) × (j < length es) × (isKind k (eventAt es i .operation) (eventAt es j .operation) (before delay es i j) ≡ true)
     to-test pairs p = (p .lower, p .higher, table-paired p)
     to-test ordered (p, o) = (p .lower, p .higher, and-intro (table-paired p) (ordered-iff (p .lower) .1 o))
     to-test commuting (p, u, c) =
@@ -135,10 +136,10 @@ module _ (es : List Event) (i j : ℕ) where
         (p .lower, p .higher, and-intro (table-paired p) (and-intro (unordered-iff (p .lower) .1 u) (ap not (same-commutes p) ∙ differ-here p .1 d)))
 
     -- where what the events carry is in range: i and j stand among the pairs of a kind exactly if they are of that kind
-    pub kind-iff : (k : Kind) → List·Memᴰ (record { lower = i; higher = j }) (ofKind k es (length es)) ↔ OfKind k es i j
+    pub kind-iff : (k : Kind) → List·Memᴰ (record { lower = i; higher = j }) (ofKind delay k es (length es)) ↔ OfKind delay k es i j
     unfolding test
     kind-iff k =
-        let r = pairs-in (test k es) (length es) i j in (
+        let r = pairs-in (test delay k es) (length es) i j in (
           λ m. let h = r .0 m in from-test k (h .0) (h .1) (h .2),
           λ o. r .1 (to-test k o),
         )

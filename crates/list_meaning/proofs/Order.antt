@@ -90,8 +90,8 @@ rising-unique (p ∷ a) (q ∷ b) r s f g = ap₂ {C = List Pair} _∷_ heads (r
     back : (x : Pair) → List·Memᴰ x b → List·Memᴰ x a
     back x m = ⊎-elim (λ e. absurd (below-irreflexive q (subst (Below q) (e ∙ heads) (s .0 x m)))) (λ n. n) (List·Memᴰ·cases-cons (g x (List·Memᴰ·tail m)))
 
-pub one-list : (k : Kind) (es : List Event) (ps qs : List Pair) → IsListOf k es ps → IsListOf k es qs → ps ≡ qs
-one-list k es ps qs a b =
+pub one-list : (delay : ℕ) (k : Kind) (es : List Event) (ps qs : List Pair) → IsListOf delay k es ps → IsListOf delay k es qs → ps ≡ qs
+one-list delay k es ps qs a b =
     rising-unique ps qs (a .rising) (b .rising)
     (λ p m. b .exact (p .lower) (p .higher) .1 (a .exact (p .lower) (p .higher) .0 m))
     (λ p m. a .exact (p .lower) (p .higher) .1 (b .exact (p .lower) (p .higher) .0 m))

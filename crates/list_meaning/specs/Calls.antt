@@ -16,6 +16,6 @@ pub record HasPairs (ps : List Pair) (old new : List ℕ) : Type 0 where
   pub rest : (m : ℕ) → 2 * length ps ≤ m → getD new m 0 ≡ getD old m 0
 
 -- the list call on a trace text and a buffer returns the four counts of these events and writes these pairs
-pub record WritesList (trace : List ℕ) (es : List Event) (ps : List Pair) (old : List ℕ) : Type 0 where
-  pub returned : listAnswer (listRaces trace (length old)) ≡ ListAnswer.Counts (countsOf es)
-  pub buffer : HasPairs ps old (written (listOut (listRaces trace (length old))) old)
+pub record WritesList (delay : ℕ) (trace : List ℕ) (es : List Event) (ps : List Pair) (old : List ℕ) : Type 0 where
+  pub returned : listAnswer (listRaces delay trace (length old)) ≡ ListAnswer.Counts (countsOf delay es)
+  pub buffer : HasPairs ps old (written (listOut (listRaces delay trace (length old))) old)

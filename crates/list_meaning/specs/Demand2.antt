@@ -13,12 +13,12 @@ use Rattle.list_meaning.specs.Types.{Event, Refusal}
 use Rattle.list_meaning.specs.Rising.{IsListOf}
 use Rattle.list_meaning.specs.Calls.{WritesList}
 
-pub record ListExact (trace : List ℕ) (es : List Event) : Type 0 where
+pub record ListExact (delay : ℕ) (trace : List ℕ) (es : List Event) : Type 0 where
   -- the pairs of each kind are those that document 01 calls so, and no others, in rising order
-  pub lists : (k : Kind) → IsListOf k es (ofKind k es (length es))
+  pub lists : (k : Kind) → IsListOf delay k es (ofKind delay k es (length es))
   -- n(n-1)/2 pairs for n table events of a switch, summed over the 16 switches
-  pub all : count pairs es ≡ sumBelow (λ w. choose (tableEvents es (length es) w)) 16
-  pub sum : count pairs es ≡ count ordered es + count commuting es + count listed es
+  pub all : count delay pairs es ≡ sumBelow (λ w. choose (tableEvents es (length es) w)) 16
+  pub sum : count delay pairs es ≡ count delay ordered es + count delay commuting es + count delay listed es
   -- the call returns how many there are of each kind and writes those listed; 31, the bytes needed, where the buffer is too short
-  pub call : (old : List ℕ) → 2 * count listed es ≤ length old → WritesList trace es (listOf es) old
-  pub short : (room : ℕ) → room < 2 * count listed es → listRaces trace room ≡ inl (Refusal.ListShort (2 * count listed es))
+  pub call : (old : List ℕ) → 2 * count delay listed es ≤ length old → WritesList delay trace es (listOf delay es) old
+  pub short : (room : ℕ) → room < 2 * count delay listed es → listRaces delay trace room ≡ inl (Refusal.ListShort (2 * count delay listed es))

@@ -8,7 +8,7 @@ use lib.ListN.{length}
 use Rattle.flow_table.specs.FlowTable.{Table, Sorted, TableInRange, tableEffect}
 use Rattle.commuting.specs.Commuting.{Agree, Commute}
 use Rattle.trace_events.specs.Events.{eventAt}
-use Rattle.happens_before.specs.Causality.{step, Chain}
+use Rattle.happens_before.specs.Causality.{direct, Chain}
 use Rattle.list_verdicts.specs.Kinds.{Kind, pairs, ordered, commuting, listed}
 use Rattle.list_meaning.specs.Types.{TableOperation, Operation, Effect, Event}
 
@@ -23,8 +23,8 @@ pub record OneTable (es : List Event) (i j : ℕ) : Type 0 where
   pub higher-is : eventAt es j .operation ≡ Operation.Table switch second
 
 -- one happens before the other
-abbrev pub Ordered : List Event → ℕ → ℕ → Type 0
-Ordered es i j = Chain (step es) i j ⊎ Chain (step es) j i
+abbrev pub Ordered : ℕ → List Event → ℕ → ℕ → Type 0
+Ordered delay es i j = Chain (direct delay es) i j ⊎ Chain (direct delay es) j i
 
 -- on some table, in order and in range, the two orders end or answer differently
 pub record Differ (v w : Effect) : Type 0 where
@@ -35,8 +35,8 @@ pub record Differ (v w : Effect) : Type 0 where
 
 -- pairs: all two table events of one switch; ordered: one happens before the other; commuting: not ordered, and commute; listed: not
 -- ordered, and some table tells the two orders apart
-abbrev pub OfKind : Kind → List Event → ℕ → ℕ → Type 0
-OfKind pairs es i j = OneTable es i j
-OfKind ordered es i j = OneTable es i j × Ordered es i j
-OfKind commuting es i j = (p : OneTable es i j) × (Ordered es i j → ⊥) × Commute (tableEffect (p .first)) (tableEffect (p .second))
-OfKind listed es i j = (p : OneTable es i j) × (Ordered es i j → ⊥) × Differ (tableEffect (p .first)) (tableEffect (p .second))
+abbrev pub OfKind : ℕ → Kind → List Event → ℕ → ℕ → Type 0
+OfKind delay pairs es i j = OneTable es i j
+OfKind delay ordered es i j = OneTable es i j × Ordered delay es i j
+OfKind delay commuting es i j = (p : OneTable es i j) × (Ordered delay es i j → ⊥) × Commute (tableEffect (p .first)) (tableEffect (p .second))
+OfKind delay listed es i j = (p : OneTable es i j) × (Ordered delay es i j → ⊥) × Differ (tableEffect (p .first)) (tableEffect (p .second))

@@ -18,6 +18,6 @@ RisingPairs [] = Unit {0}
 RisingPairs (p ∷ ps) = ((q : Pair) → List·Memᴰ q ps → Below p q) × RisingPairs ps
 
 -- THE list of the pairs of a kind: these pairs and no others, in rising order. (`one-list`, proofs/Order.antt: there is one such list.)
-pub record IsListOf (k : Kind) (es : List Event) (ps : List Pair) : Type 0 where
-  pub exact : (i j : ℕ) → List·Memᴰ (record { lower = i; higher = j }) ps ↔ OfKind k es i j
+pub record IsListOf (delay : ℕ) (k : Kind) (es : List Event) (ps : List Pair) : Type 0 where
+  pub exact : (i j : ℕ) → List·Memᴰ (record { lower = i; higher = j }) ps ↔ OfKind delay k es i j
   pub rising : RisingPairs ps

@@ -18,42 +18,42 @@ pub events-most : (t : Trace) → t .len ≤ 256 → length (eventsOf t) ≤ 256
 unfolding eventsOf
 events-most t h = omega (arith, length-take (t .len) (t .events))
 
-module _ (es : List Event) (few : length es ≤ 256) (c : Counts) (e : c ≡ countsOf es) where
-  listed-is : c .listed ≡ count listed es
+module _ (delay : ℕ) (es : List Event) (few : length es ≤ 256) (c : Counts) (e : c ≡ countsOf delay es) where
+  listed-is : c .listed ≡ count delay listed es
   unfolding countsOf
   listed-is = ap (λ (d : Counts). d .listed) e
 
   listed-most : c .listed ≤ 32640
-  listed-most = omega (arith, listed-is, count-most listed es few)
+  listed-most = omega (arith, listed-is, count-most delay listed es few)
 
   pub counts-small : Small c
   unfolding countsOf
-  counts-small = rw e (small-of (countsOf es) small)
+  counts-small = rw e (small-of (countsOf delay es) small)
     where
-      small : (k : Kind) → countOf k (countsOf es) ≤ 65535
-      small Kind.pairs = omega (arith, count-most Kind.pairs es few)
-      small Kind.ordered = omega (arith, count-most Kind.ordered es few)
-      small Kind.commuting = omega (arith, count-most Kind.commuting es few)
-      small Kind.listed = omega (arith, count-most Kind.listed es few)
+      small : (k : Kind) → countOf k (countsOf delay es) ≤ 65535
+      small Kind.pairs = omega (arith, count-most delay Kind.pairs es few)
+      small Kind.ordered = omega (arith, count-most delay Kind.ordered es few)
+      small Kind.commuting = omega (arith, count-most delay Kind.commuting es few)
+      small Kind.listed = omega (arith, count-most delay Kind.listed es few)
 
-  bytes-taken : length (pairBytes (listOf es)) ≡ 2 * c .listed
-  bytes-taken = bytes-length (listOf es) ∙ ap (λ (n : ℕ). 2 * n) (sym listed-is)
+  bytes-taken : length (pairBytes (listOf delay es)) ≡ 2 * c .listed
+  bytes-taken = bytes-length (listOf delay es) ∙ ap (λ (n : ℕ). 2 * n) (sym listed-is)
 
-  pub made : (room bytes : List ℕ) → length room ≡ 131072 → bytes ≡ sets room 0 (pairBytes (listOf es))
-      → HoldsList es c bytes
+  pub made : (room bytes : List ℕ) → length room ≡ 131072 → bytes ≡ sets room 0 (pairBytes (listOf delay es))
+      → HoldsList delay es c bytes
   unfolding listingOf
   made room bytes l h =
-      let taken : take (2 * c .listed) bytes ≡ pairBytes (listOf es) =
-      ap (take (2 * c .listed)) (h ∙ sets-eq (pairBytes (listOf es)) room 0 (omega (arith, bytes-taken, listed-most)))
-      ∙ take-at (pairBytes (listOf es)) (drop (0 + length (pairBytes (listOf es))) room) (2 * c .listed) bytes-taken in
-      record { listing = λ m. record { counts = e m; bytes = taken m }; most = listed-most; within = omega (arith, listed-most, ap length h, length-sets room 0 (pairBytes (listOf es))); small = counts-small }
+      let taken : take (2 * c .listed) bytes ≡ pairBytes (listOf delay es) =
+      ap (take (2 * c .listed)) (h ∙ sets-eq (pairBytes (listOf delay es)) room 0 (omega (arith, bytes-taken, listed-most)))
+      ∙ take-at (pairBytes (listOf delay es)) (drop (0 + length (pairBytes (listOf delay es))) room) (2 * c .listed) bytes-taken in
+      record { listing = λ m. record { counts = e m; bytes = taken m }; most = listed-most; within = omega (arith, listed-most, ap length h, length-sets room 0 (pairBytes (listOf delay es))); small = counts-small }
 
-module _ (es : List Event) (c : Counts) (bytes : List ℕ) (h : HoldsList es c bytes) where
-  pub counts-are : c ≡ countsOf es
+module _ (delay : ℕ) (es : List Event) (c : Counts) (bytes : List ℕ) (h : HoldsList delay es c bytes) where
+  pub counts-are : c ≡ countsOf delay es
   unfolding listingOf
   counts-are = ap (λ (l : Listing). l .counts) (h .listing)
 
-  pub list-is : take (2 * c .listed) bytes ≡ pairBytes (listOf es)
+  pub list-is : take (2 * c .listed) bytes ≡ pairBytes (listOf delay es)
   unfolding listingOf
   list-is = ap (λ (l : Listing). l .bytes) (h .listing)
 

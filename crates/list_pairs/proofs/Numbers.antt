@@ -32,12 +32,12 @@ parts true false o m = refl
 parts false p o m = refl
 
 -- pairs = ordered + commuting + listed
-pub counts-add : (es : List Event) → count pairs es ≡ count ordered es + count commuting es + count listed es
+pub counts-add : (delay : ℕ) (es : List Event) → count delay pairs es ≡ count delay ordered es + count delay commuting es + count delay listed es
 unfolding pairsWhere test
-counts-add es =
+counts-add delay es =
     gather-sum _ _ _ _
-    (λ i. gather-sum (cell (test pairs es) i) (cell (test ordered es) i) (cell (test commuting es) i) (cell (test listed es) i)
-    (λ j. simp size-only (parts (ltb i j) (paired (eventAt es i .operation) (eventAt es j .operation)) (before es i j)
+    (λ i. gather-sum (cell (test delay pairs es) i) (cell (test delay ordered es) i) (cell (test delay commuting es) i) (cell (test delay listed es) i)
+    (λ j. simp size-only (parts (ltb i j) (paired (eventAt es i .operation) (eventAt es j .operation)) (before delay es i j)
     (commutes (effectOf (eventAt es i .operation)) (effectOf (eventAt es j .operation))))) (length es)) (length es)
 
 -- ---- the number of pairs
@@ -77,14 +77,14 @@ choose-more n =
     rw e (omega (arith, product n))
 
 -- the pairs of a new event n: one with each that uses the same table
-pairs-with : (es : List Event) (n : ℕ) → usesTable (eventAt es n .operation) ≡ true
-    → countBelow (λ i. test pairs es i n) n ≡ tableEvents es n (switchOf (eventAt es n .operation))
+pairs-with : (delay : ℕ) (es : List Event) (n : ℕ) → usesTable (eventAt es n .operation) ≡ true
+    → countBelow (λ i. test delay pairs es i n) n ≡ tableEvents es n (switchOf (eventAt es n .operation))
 unfolding test paired tableEvents onTable
-pairs-with es n e = count-same _ _ (λ k. rw e refl) n
+pairs-with delay es n e = count-same _ _ (λ k. rw e refl) n
 
-pairs-without : (es : List Event) (n : ℕ) → usesTable (eventAt es n .operation) ≡ false → countBelow (λ i. test pairs es i n) n ≡ 0
+pairs-without : (delay : ℕ) (es : List Event) (n : ℕ) → usesTable (eventAt es n .operation) ≡ false → countBelow (λ i. test delay pairs es i n) n ≡ 0
 unfolding test paired
-pairs-without es n e = count-none _ (λ k. rw e (none (usesTable (eventAt es k .operation)))) n
+pairs-without delay es n e = count-none _ (λ k. rw e (none (usesTable (eventAt es k .operation)))) n
   where
     none : (b : Bool) → (b && false) ≡ false
     none true = refl
@@ -108,22 +108,22 @@ module _ (es : List Event) (n w : ℕ) where
   unfolding onTable
   on-it q e = rw e (eq-eqb (switchOf (eventAt es n .operation)) w (sym q))
 
-nothing : (es : List Event) → length (ofKind pairs es 0) ≡ sumBelow (λ w. choose (tableEvents es 0 w)) 16
+nothing : (delay : ℕ) (es : List Event) → length (ofKind delay pairs es 0) ≡ sumBelow (λ w. choose (tableEvents es 0 w)) 16
 unfolding pairsWhere tableEvents choose
-nothing es = refl
+nothing delay es = refl
 
 -- n(n-1)/2 pairs for n table events of a switch, summed over the 16 switches
-pairs-below : (es : List Event) (n : ℕ) → ((k : ℕ) → k < n → switchOf (eventAt es k .operation) < 16)
-    → length (ofKind pairs es n) ≡ sumBelow (λ w. choose (tableEvents es n w)) 16
-pairs-below es zero h = nothing es
-pairs-below es (suc n) h =
-    let ih = pairs-below es n (λ k l. h k (omega arith)) in
+pairs-below : (delay : ℕ) (es : List Event) (n : ℕ) → ((k : ℕ) → k < n → switchOf (eventAt es k .operation) < 16)
+    → length (ofKind delay pairs es n) ≡ sumBelow (λ w. choose (tableEvents es n w)) 16
+pairs-below delay es zero h = nothing delay es
+pairs-below delay es (suc n) h =
+    let ih = pairs-below delay es n (λ k l. h k (omega arith)) in
     let v = switchOf (eventAt es n .operation) in
     split (usesTable (eventAt es n .operation))
     (λ e. omega (
       arith,
-      where-more (test pairs es) n,
-      pairs-with es n e,
+      where-more (test delay pairs es) n,
+      pairs-with delay es n e,
       sum-at (λ w. choose (tableEvents es (suc n) w)) (λ w. choose (tableEvents es n w)) v (tableEvents es n v)
           (λ w ne. ap choose (events-more es n w false (on-other es n w ne e) ∙ add-zero (tableEvents es n w)))
           (ap choose (events-more es n v true (on-it es n v refl e)) ∙ choose-more (tableEvents es n v)) 16 (h n (omega arith)),
@@ -131,13 +131,13 @@ pairs-below es (suc n) h =
     ))
     (λ e. omega (
       arith,
-      where-more (test pairs es) n,
-      pairs-without es n e,
+      where-more (test delay pairs es) n,
+      pairs-without delay es n e,
       sum-same (λ w. choose (tableEvents es (suc n) w)) (λ w. choose (tableEvents es n w))
           (λ w. ap choose (events-more es n w false (not-on es n w e) ∙ add-zero (tableEvents es n w))) 16,
       ih,
     ))
 
-pub pairs-count : (es : List Event) → ((k : ℕ) → k < length es → switchOf (eventAt es k .operation) < 16)
-    → count pairs es ≡ sumBelow (λ w. choose (tableEvents es (length es) w)) 16
-pairs-count es h = pairs-below es (length es) h
+pub pairs-count : (delay : ℕ) (es : List Event) → ((k : ℕ) → k < length es → switchOf (eventAt es k .operation) < 16)
+    → count delay pairs es ≡ sumBelow (λ w. choose (tableEvents es (length es) w)) 16
+pairs-count delay es h = pairs-below delay es (length es) h

@@ -26,8 +26,8 @@ use Rattle.list_pairs.specs.Inner.{counts, countOf}
 
 -- ---- a row
 -- the pairs of a kind whose lower event is i and whose higher is below n
-abbrev pub pairsOf : Kind → List Event → ℕ → ℕ → List Pair
-pairsOf k es i n = gather (cell (test k es) i) n
+abbrev pub pairsOf : (delay : ℕ) → Kind → List Event → ℕ → ℕ → List Pair
+pairsOf delay k es i n = gather (cell (test delay k es) i) n
 
 -- nothing stands at or left of i
 pub row-start : (p : ℕ → ℕ → Bool) (i : ℕ) → gather (cell p i) (i + 1) ≡ []
@@ -78,11 +78,11 @@ pub small-of : (c : Counts) → ((k : Kind) → countOf k c ≤ 65535) → Small
 small-of c h = record { pairs-small = h pairs; ordered-small = h ordered; commuting-small = h commuting; listed-small = h listed }
 
 -- the rows below i
-abbrev pub rowsBelow : Kind → List Event → ℕ → ℕ → List Pair
-rowsBelow k es n i = gather (λ m. pairsOf k es m n) i
+abbrev pub rowsBelow : (delay : ℕ) → Kind → List Event → ℕ → ℕ → List Pair
+rowsBelow delay k es n i = gather (λ m. pairsOf delay k es m n) i
 
-pub below-most : (k : Kind) (es : List Event) (n i : ℕ) → n ≤ 256 → length (rowsBelow k es n i) ≤ i * 256
-below-most k es n i h = gather-most (λ m. pairsOf k es m n) 256 (λ m. omega (arith, row-most (test k es) m n)) i
+pub below-most : (delay : ℕ) (k : Kind) (es : List Event) (n i : ℕ) → n ≤ 256 → length (rowsBelow delay k es n i) ≤ i * 256
+below-most delay k es n i h = gather-most (λ m. pairsOf delay k es m n) 256 (λ m. omega (arith, row-most (test delay k es) m n)) i
 
 -- ---- verdicts
 abbrev kindOf : Kind → Bool → Bool → Bool → Bool
@@ -120,10 +120,10 @@ verdict-counts k o p h = judged k (paired o p) h (commutes (effectOf o) (effectO
     named commuting = refl
     named listed = refl
 
-module _ (es : List Event) (i j : ℕ) {o : Bool} {v : Verdict} (l : i < j) (e : o ≡ before es i j)
+module _ (delay : ℕ) (es : List Event) (i j : ℕ) {o : Bool} {v : Verdict} (l : i < j) (e : o ≡ before delay es i j)
     (verdict : v ≡ verdictOf (eventAt es i .operation) (eventAt es j .operation) o) where
   -- what the verdict says of lines i and j
-  tested : (k : Kind) → counts k v ≡ test k es i j
+  tested : (k : Kind) → counts k v ≡ test delay k es i j
   unfolding test
   tested k =
       ap (counts k) verdict
@@ -131,36 +131,36 @@ module _ (es : List Event) (i j : ℕ) {o : Bool} {v : Verdict} (l : i < j) (e :
       ∙ ap (isKind k (eventAt es i .operation) (eventAt es j .operation)) e
 
   -- a turn of the pass over row i: a count
-  pub count-turn : (k : Kind) (x y z : ℕ) → x ≡ y + size (counts k v) → y ≡ z + length (pairsOf k es i j) → x ≡ z + length (pairsOf k es i (j + 1))
-  count-turn k x y z xy yz = omega (arith, row-more (test k es) i j l, ap size (tested k))
+  pub count-turn : (k : Kind) (x y z : ℕ) → x ≡ y + size (counts k v) → y ≡ z + length (pairsOf delay k es i j) → x ≡ z + length (pairsOf delay k es i (j + 1))
+  count-turn k x y z xy yz = omega (arith, row-more (test delay k es) i j l, ap size (tested k))
 
   -- and the bytes, put after those of the list so far
-  pub bytes-turn : (old out now : List ℕ) (s at : ℕ) → at ≡ s + length (pairsOf listed es i j) → out ≡ sets old (2 * s) (pairBytes (pairsOf listed es i j))
+  pub bytes-turn : (old out now : List ℕ) (s at : ℕ) → at ≡ s + length (pairsOf delay listed es i j) → out ≡ sets old (2 * s) (pairBytes (pairsOf delay listed es i j))
       → now ≡ sets out (2 * at) (pairBytes (only (counts listed v) (record { lower = i; higher = j })))
-      → now ≡ sets old (2 * s) (pairBytes (pairsOf listed es i (j + 1)))
+      → now ≡ sets old (2 * s) (pairBytes (pairsOf delay listed es i (j + 1)))
   bytes-turn old out now s at ha ho hn =
       hn
       ∙ ap (λ (w : List ℕ). sets w (2 * at) (pairBytes (only (counts listed v) (record { lower = i; higher = j })))) ho
-      ∙ write-more (pairsOf listed es i j) (only (counts listed v) (record { lower = i; higher = j })) old (2 * s) (2 * at) (omega arith)
-      ∙ ap (λ (ps : List Pair). sets old (2 * s) (pairBytes ps)) (sym (row-next (test listed es) i j (counts listed v) l (tested listed)))
+      ∙ write-more (pairsOf delay listed es i j) (only (counts listed v) (record { lower = i; higher = j })) old (2 * s) (2 * at) (omega arith)
+      ∙ ap (λ (ps : List Pair). sets old (2 * s) (pairBytes ps)) (sym (row-next (test delay listed es) i j (counts listed v) l (tested listed)))
 
 -- ---- all rows
-pub below-count : (k : Kind) (es : List Event) (n i : ℕ) (x y : ℕ) → x ≡ y + length (pairsOf k es i n) → y ≡ length (rowsBelow k es n i) → x ≡ length (rowsBelow k es n (i + 1))
-below-count k es n i x y xy ys = omega (arith, gather-more (λ m. pairsOf k es m n) i)
+pub below-count : (delay : ℕ) (k : Kind) (es : List Event) (n i : ℕ) (x y : ℕ) → x ≡ y + length (pairsOf delay k es i n) → y ≡ length (rowsBelow delay k es n i) → x ≡ length (rowsBelow delay k es n (i + 1))
+below-count delay k es n i x y xy ys = omega (arith, gather-more (λ m. pairsOf delay k es m n) i)
 
-pub below-bytes : (es : List Event) (n i : ℕ) (old out now : List ℕ) (at : ℕ) → at ≡ length (rowsBelow listed es n i) → out ≡ sets old 0 (pairBytes (rowsBelow listed es n i))
-    → now ≡ sets out (2 * at) (pairBytes (pairsOf listed es i n)) → now ≡ sets old 0 (pairBytes (rowsBelow listed es n (i + 1)))
-below-bytes es n i old out now at ha ho hn =
+pub below-bytes : (delay : ℕ) (es : List Event) (n i : ℕ) (old out now : List ℕ) (at : ℕ) → at ≡ length (rowsBelow delay listed es n i) → out ≡ sets old 0 (pairBytes (rowsBelow delay listed es n i))
+    → now ≡ sets out (2 * at) (pairBytes (pairsOf delay listed es i n)) → now ≡ sets old 0 (pairBytes (rowsBelow delay listed es n (i + 1)))
+below-bytes delay es n i old out now at ha ho hn =
     hn
-    ∙ ap (λ (w : List ℕ). sets w (2 * at) (pairBytes (pairsOf listed es i n))) ho
-    ∙ write-more (rowsBelow listed es n i) (pairsOf listed es i n) old 0 (2 * at) (omega arith)
-    ∙ ap (λ (m : ℕ). sets old 0 (pairBytes (rowsBelow listed es n m))) (sym (add-one i))
+    ∙ ap (λ (w : List ℕ). sets w (2 * at) (pairBytes (pairsOf delay listed es i n))) ho
+    ∙ write-more (rowsBelow delay listed es n i) (pairsOf delay listed es i n) old 0 (2 * at) (omega arith)
+    ∙ ap (λ (m : ℕ). sets old 0 (pairBytes (rowsBelow delay listed es n m))) (sym (add-one i))
 
-pub all-rows : (k : Kind) (es : List Event) (n : ℕ) → rowsBelow k es n n ≡ ofKind k es n
+pub all-rows : (delay : ℕ) (k : Kind) (es : List Event) (n : ℕ) → rowsBelow delay k es n n ≡ ofKind delay k es n
 unfolding pairsWhere
-all-rows k es n = refl
+all-rows delay k es n = refl
 
 -- counts that are those of each kind
-pub counted : (es : List Event) (c : Counts) → ((k : Kind) → countOf k c ≡ length (ofKind k es (length es))) → c ≡ countsOf es
+pub counted : (delay : ℕ) (es : List Event) (c : Counts) → ((k : Kind) → countOf k c ≡ length (ofKind delay k es (length es))) → c ≡ countsOf delay es
 unfolding countsOf
-counted es c h = λ m. record { pairs = h pairs m; ordered = h ordered m; commuting = h commuting m; listed = h listed m }
+counted delay es c h = λ m. record { pairs = h pairs m; ordered = h ordered m; commuting = h commuting m; listed = h listed m }

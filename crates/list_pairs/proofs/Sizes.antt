@@ -48,5 +48,5 @@ pairs-most : (p : ℕ → ℕ → Bool) (n : ℕ) → n ≤ 256 → length (pair
 unfolding pairsWhere
 pairs-most p n l = omega (arith, rows-below p n n (omega arith), mul-le-mul-left n l)
 
-pub count-most : (k : Kind) (es : List Event) → length es ≤ 256 → count k es ≤ 32640
-count-most k es l = pairs-most (test k es) (length es) l
+pub count-most : (delay : ℕ) (k : Kind) (es : List Event) → length es ≤ 256 → count delay k es ≤ 32640
+count-most delay k es l = pairs-most (test delay k es) (length es) l

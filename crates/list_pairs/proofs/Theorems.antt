@@ -13,8 +13,8 @@ use Rattle.list_pairs.specs.List.{test, listOf}
 use Rattle.list_pairs.proofs.Members.{pairs-in}
 
 -- a pair stands in the list exactly if the test says that its events are listed
-pub list-members : (es : List Event) (i j : ℕ)
-    → List·Memᴰ (record { lower = i; higher = j }) (listOf es)
-    ↔ ((i < j) × (j < length es) × (isKind listed (eventAt es i .operation) (eventAt es j .operation) (before es i j) ≡ true))
+pub list-members : (delay : ℕ) (es : List Event) (i j : ℕ)
+    → List·Memᴰ (record { lower = i; higher = j }) (listOf delay es)
+    ↔ ((i < j) × (j < length es) × (isKind listed (eventAt es i .operation) (eventAt es j .operation) (before delay es i j) ≡ true))
 unfolding test
-list-members es i j = pairs-in (test listed es) (length es) i j
+list-members delay es i j = pairs-in (test delay listed es) (length es) i j

@@ -40,8 +40,8 @@ abbrev pub asListing : Counts → List ℕ → Listing
 asListing c bytes = record { counts = c; bytes = take (2 * c .listed) bytes }
 
 -- the list of these events, of at most 32,640 pairs
-pub record HoldsList (es : List Event) (c : Counts) (bytes : List ℕ) : Type 0 where
-  pub listing : asListing c bytes ≡ listingOf es
+pub record HoldsList (delay : ℕ) (es : List Event) (c : Counts) (bytes : List ℕ) : Type 0 where
+  pub listing : asListing c bytes ≡ listingOf delay es
   pub most : c .listed ≤ 32640
   pub within : 2 * c .listed ≤ length bytes
   pub small : Small c

@@ -12,8 +12,8 @@ use Rattle.happens_before.specs.Causality.{before}
 use Rattle.list_pairs.specs.Types.{Event, Counts}
 
 -- the events of lines i and j, i the lower, are of a kind; the higher never happens before the lower
-unfoldable pub test : Kind → List Event → ℕ → ℕ → Bool
-test k es i j = isKind k (eventAt es i .operation) (eventAt es j .operation) (before es i j)
+unfoldable pub test : ℕ → Kind → List Event → ℕ → ℕ → Bool
+test delay k es i j = isKind k (eventAt es i .operation) (eventAt es j .operation) (before delay es i j)
 
 -- two events, the lower first
 pub record Pair : Type 0 where
@@ -29,12 +29,12 @@ unfoldable pub pairsWhere : (ℕ → ℕ → Bool) → ℕ → List Pair
 pairsWhere p n = gather (λ i. gather (cell p i) n) n
 
 -- the pairs of a kind among the first n events
-abbrev pub ofKind : Kind → List Event → ℕ → List Pair
-ofKind k es n = pairsWhere (test k es) n
+abbrev pub ofKind : ℕ → Kind → List Event → ℕ → List Pair
+ofKind delay k es n = pairsWhere (test delay k es) n
 
 -- the list of a trace
-abbrev pub listOf : List Event → List Pair
-listOf es = ofKind listed es (length es)
+abbrev pub listOf : ℕ → List Event → List Pair
+listOf delay es = ofKind delay listed es (length es)
 
 -- a pair is two bytes: lower event, higher event
 abbrev pub pairBytes : List Pair → List ℕ
@@ -48,17 +48,17 @@ eachPair text (i ∷ []) = []
 eachPair text (i ∷ j ∷ list) = text i j ++ eachPair text list
 
 -- the number of pairs of a kind
-abbrev pub count : Kind → List Event → ℕ
-count k es = length (ofKind k es (length es))
+abbrev pub count : ℕ → Kind → List Event → ℕ
+count delay k es = length (ofKind delay k es (length es))
 
 -- the four counts
-unfoldable pub countsOf : List Event → Counts
-countsOf es = record { pairs = count pairs es; ordered = count ordered es; commuting = count commuting es; listed = count listed es }
+unfoldable pub countsOf : ℕ → List Event → Counts
+countsOf delay es = record { pairs = count delay pairs es; ordered = count delay ordered es; commuting = count delay commuting es; listed = count delay listed es }
 
 -- what the list call hands over of a trace's events: the four counts, and the bytes of the list
 pub record Listing : Type 0 where
   pub counts : Counts
   pub bytes : List ℕ
 
-unfoldable pub listingOf : List Event → Listing
-listingOf es = record { counts = countsOf es; bytes = pairBytes (listOf es) }
+unfoldable pub listingOf : ℕ → List Event → Listing
+listingOf delay es = record { counts = countsOf delay es; bytes = pairBytes (listOf delay es) }

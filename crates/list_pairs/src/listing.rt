@@ -16,11 +16,11 @@ pub fn pair_room() -> [u8; 131072]
     [0u8; 131072]
 }
 
-// The four counts, and the list from the start of that room.
-pub fn list_of(t: Trace, list: &mut [u8]) -> Counts
+// The four counts, and the list from the start of that room, under a delay.
+pub fn list_of(t: Trace, delay: u32, list: &mut [u8]) -> Counts
     requires { ⌜ (t .len ≤ 256) × (length (now list) ≡ 131072) ⌝ }
-    ensures { λ r. ⌜ HoldsList (eventsOf t) r (now (list .exit)) ⌝ }
+    ensures { λ r. ⌜ HoldsList delay (eventsOf t) r (now (list .exit)) ⌝ }
 {
-    let rows = happens_before::happens_before(t);
-    scan(t, &rows, list)
+    let rows = happens_before::happens_before(t, delay);
+    scan(t, delay, &rows, list)
 }

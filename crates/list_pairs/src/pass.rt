@@ -34,12 +34,12 @@ fn put_listed(list: &mut [u8], at: usize, i: u8, j: u8, v: Verdict)
 }
 
 // All pairs: the four counts, and the listed pairs from the list's start. Both loops stand here, since an inner call would copy
-// what the events are at each turn.
-pub(crate) fn scan(t: Trace, rows: &[[u64; 4]; 256], list: &mut [u8]) -> Counts
+// what the events are at each turn. The delay is that of the rows, which hold all that it decides.
+pub(crate) fn scan(t: Trace, delay: u32, rows: &[[u64; 4]; 256], list: &mut [u8]) -> Counts
     requires { ⌜ (t .len ≤ 256) × (131072 ≤ length (now list)) ⌝ }
-    requires { ⌜ HappensBefore (eventsOf t) (now rows) ⌝ }
-    ensures { λ r. ⌜ r ≡ countsOf (eventsOf t) ⌝ }
-    ensures { λ r. ⌜ now (list .exit) ≡ sets (now (list .entry)) 0 (pairBytes (listOf (eventsOf t))) ⌝ }
+    requires { ⌜ HappensBefore delay (eventsOf t) (now rows) ⌝ }
+    ensures { λ r. ⌜ r ≡ countsOf delay (eventsOf t) ⌝ }
+    ensures { λ r. ⌜ now (list .exit) ≡ sets (now (list .entry)) 0 (pairBytes (listOf delay (eventsOf t))) ⌝ }
 {
     let uses = all_uses(t);
     let mut sum = no_counts();

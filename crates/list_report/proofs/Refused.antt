@@ -38,10 +38,10 @@ text-most s Source.Trace n = omega (arith, length-append (getD (lines s) n []) (
 text-most s Source.Tables n = omega (arith, length-append (getD (lines []) n []) (bytes "\n"), line-most [] n)
 
 -- a text that exceeds a limit has no refused line; the line of any other fits 65,536 bytes with its LF
-pub refused-text : (s : List ℕ) (r : Refusal) → readTrace s ≡ inl r → length (lineText (sourceOf r) (lineOf s [] r)) ≤ 65536
+pub refused-text : (delay : ℕ) (s : List ℕ) (r : Refusal) → readTrace delay s ≡ inl r → length (lineText (sourceOf r) (lineOf s [] r)) ≤ 65536
 unfolding lineOf
-refused-text s r h =
-    refused-for s r h
+refused-text delay s r h =
+    refused-for delay s r h
     (λ n p q. rw q (omega arith))
     (λ w n p. omega (arith, text-most s (sourceOf r) (placeOf r), w .bytes))
     (λ w es e u. omega (arith, text-most s (sourceOf r) (placeOf r), w .bytes))

@@ -39,22 +39,22 @@ counts-length : (c : Counts) → length (countsLine c) ≤ 115
 unfolding countsLine
 counts-length c = simp (length-append, key-number-length) (omega (arith, print-length (c .pairs), print-length (c .ordered), print-length (c .commuting), print-length (c .listed)))
 
-list-length : (es : List Event) → length es ≤ 256 → length (listText (listingOf es)) ≤ 425000
+list-length : (delay : ℕ) (es : List Event) → length es ≤ 256 → length (listText (listingOf delay es)) ≤ 425000
 unfolding listText listingOf
-list-length es l =
+list-length delay es l =
     omega (
       arith,
-      length-append (raceLines (pairBytes (listOf es))) (countsLine (countsOf es)),
-      races-length (listOf es) (λ i j m. let q = pairs-in (test listed es) (length es) i j .0 m in (q .0, omega (arith, q .1))),
-      count-most listed es l,
-      counts-length (countsOf es),
+      length-append (raceLines (pairBytes (listOf delay es))) (countsLine (countsOf delay es)),
+      races-length (listOf delay es) (λ i j m. let q = pairs-in (test delay listed es) (length es) i j .0 m in (q .0, omega (arith, q .1))),
+      count-most delay listed es l,
+      counts-length (countsOf delay es),
     )
 
 -- what is printed fits 425,000 bytes
-pub report-length : (s : List ℕ) → length (reportText s) ≤ 425000
+pub report-length : (delay : ℕ) (s : List ℕ) → length (reportText delay s) ≤ 425000
 unfolding reportText
-report-length s = go (readTrace s) refl
+report-length delay s = go (readTrace delay s) refl
   where
-    go : (x : Checked (List Event)) → readTrace s ≡ x → length (textOf s x) ≤ 425000
-    go (inl r) h = omega (arith, refused-length s [] r, refusal-length r, refused-text s r h)
-    go (inr es) h = list-length es (trace-accepted-iff s es .0 h .few)
+    go : (x : Checked (List Event)) → readTrace delay s ≡ x → length (textOf delay s x) ≤ 425000
+    go (inl r) h = omega (arith, refused-length s [] r, refusal-length r, refused-text delay s r h)
+    go (inr es) h = list-length delay es (trace-accepted-iff delay s es .0 h .few)

@@ -10,10 +10,10 @@ use Rattle.list_report.specs.Types.{Event, Refusal}
 use Rattle.list_report.specs.Report.{raceLines, countsLine, listText, textOf, reportText}
 
 -- of an accepted trace a race line for each pair of that list, in its order, and the counts line; of any other the refusal
-pub report-lists : (s : List ℕ) (es : List Event) → readTrace s ≡ inr es → reportText s ≡ raceLines (pairBytes (listOf es)) ++ countsLine (countsOf es)
+pub report-lists : (delay : ℕ) (s : List ℕ) (es : List Event) → readTrace delay s ≡ inr es → reportText delay s ≡ raceLines (pairBytes (listOf delay es)) ++ countsLine (countsOf delay es)
 unfolding reportText listText listingOf
-report-lists s es h = ap (textOf s) h
+report-lists delay s es h = ap (textOf delay s) h
 
-pub report-refuses : (s : List ℕ) (r : Refusal) → readTrace s ≡ inl r → reportText s ≡ refusedText s [] r
+pub report-refuses : (delay : ℕ) (s : List ℕ) (r : Refusal) → readTrace delay s ≡ inl r → reportText delay s ≡ refusedText s [] r
 unfolding reportText
-report-refuses s r h = ap (textOf s) h
+report-refuses delay s r h = ap (textOf delay s) h

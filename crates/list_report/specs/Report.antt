@@ -31,10 +31,10 @@ unfoldable pub listText : Listing → List ℕ
 listText l = raceLines (l .bytes) ++ countsLine (l .counts)
 
 -- of what a trace's text is read as
-abbrev pub textOf : List ℕ → Checked (List Event) → List ℕ
-textOf trace (inl r) = refusedText trace [] r
-textOf trace (inr es) = listText (listingOf es)
+abbrev pub textOf : ℕ → List ℕ → Checked (List Event) → List ℕ
+textOf delay trace (inl r) = refusedText trace [] r
+textOf delay trace (inr es) = listText (listingOf delay es)
 
 -- what `racelist` prints of a trace's text
-unfoldable pub reportText : List ℕ → List ℕ
-reportText trace = textOf trace (readTrace trace)
+unfoldable pub reportText : ℕ → List ℕ → List ℕ
+reportText delay trace = textOf delay trace (readTrace delay trace)

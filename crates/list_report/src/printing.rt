@@ -62,29 +62,29 @@ pub fn room() -> [u8; 425000]
 }
 
 // Of the events of an accepted trace: a line for each listed pair, then the counts line.
-fn put_listing(out: &mut [u8], t: Trace) -> usize
+fn put_listing(out: &mut [u8], t: Trace, delay: u32) -> usize
     requires { ⌜ t .len ≤ 256 ⌝ }
-    ensures { λ r. ⌜ Put (listText (listingOf (eventsOf t))) 0 (now (out .entry)) r (now (out .exit)) ⌝ }
+    ensures { λ r. ⌜ Put (listText (listingOf delay (eventsOf t))) 0 (now (out .entry)) r (now (out .exit)) ⌝ }
 {
     let mut pairs = list_pairs::pair_room();
-    let counts = list_pairs::list_of(t, &mut pairs);
+    let counts = list_pairs::list_of(t, delay, &mut pairs);
     let n = 2 * counts.listed;
     let at = put_races(out, &pairs[..n]);
     put_counts(out, at, counts)
 }
 
-// What `racelist` prints of a trace.
-pub fn report(trace: &[u8], out: &mut [u8]) -> usize
-    ensures { λ r. ⌜ Put (reportText (now (trace .entry))) 0 (now (out .entry)) r (now (out .exit)) ⌝ }
+// What `racelist` prints of a trace under a delay.
+pub fn report(trace: &[u8], delay: u32, out: &mut [u8]) -> usize
+    ensures { λ r. ⌜ Put (reportText delay (now (trace .entry))) 0 (now (out .entry)) r (now (out .exit)) ⌝ }
     ensures { λ r. ⌜ r ≤ 425000 ⌝ }
 {
-    let read = trace_text::read_trace(trace);
+    let read = trace_text::read_trace(trace, delay);
     let outcome = read.outcome;
     match outcome {
         Outcome::Refused(r) => refusals_text::refused(out, trace, &trace[..0], r),
         Outcome::Accepted => {
             let events = read.trace;
-            put_listing(out, events)
+            put_listing(out, events, delay)
         }
     }
 }

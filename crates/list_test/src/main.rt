@@ -1,12 +1,14 @@
 // Prints the report on each trace text of its data files. What must come out is in the file `stdout`.
+use program_delay::DELAY;
 
 // The files 000 and on: the worked lines and no events; each refusal; barriers, messages and chains through tokens; pairs that commute or
-// do not; 256 events; traces drawn at random; from 054 on barriers and chains again, every two operations, many switches and events.
-const CASES: u8 = 77;
+// do not; 256 events; traces drawn at random; from 054 on barriers and chains again, every two operations, many switches and events;
+// from 077 on clocks.
+const CASES: u8 = 84;
 
 fn print_report(trace: &[u8]) {
     let mut out = list_report::room();
-    let n = list_report::report(trace, &mut out);
+    let n = list_report::report(trace, DELAY, &mut out);
     program_output::write(text_lines::front(&out, n));
 }
 
@@ -32,7 +34,7 @@ fn numbered(i: u8) {
     run(&name);
 }
 
-// The rehearsals of examples/, each with its repaired trace.
+// The rehearsals of examples/, each with its repaired trace, and the one with clocks close together and apart.
 fn rehearsals() {
     run(b"packet_early");
     run(b"packet_early_repaired");
@@ -46,6 +48,8 @@ fn rehearsals() {
     run(b"shared_cable_repaired");
     run(b"sent_out_as_pkt");
     run(b"sent_out");
+    run(b"clock_close");
+    run(b"clock_apart");
 }
 
 fn main() {

@@ -1,6 +1,7 @@
 -- What the refusals of an order mean: no position is early exactly if the order keeps happens-before (`early-none-iff`), the position
 -- is the lowest (`early-iff`), an order is accepted exactly if none of its events is missing and it keeps happens-before
--- (`order-accepted-iff`), and the recorded order is accepted (`recorded-accepted`). Assumes nothing.
+-- (`order-accepted-iff`), and the recorded order is accepted (`recorded-accepted`), where the time rule puts no later line before an
+-- earlier one. Assumes nothing.
 use mathlib.Core.Path.{_≡_, refl, sym, ap, _∙_}
 use mathlib.Core.Logic.{_↔_, inr}
 use mathlib.Core.Bool.{Bool, true, false, not, _&&_, _||_, cond, false≢true, true≢false, or-true}
@@ -16,8 +17,9 @@ use Rattle.basics.proofs.Booleans.{split, and-left, and-right, or-cases}
 use Rattle.order_meaning.specs.Orders.{from, stands, IsOrderOf}
 use Rattle.basics.specs.Searches.{has}
 use Rattle.order_meaning.proofs.OrderLaws.{not-both}
-use Rattle.happens_before.specs.Causality.{step, Chain, before}
-use Rattle.happens_before.proofs.Chains.{before-iff, chain-later}
+use Rattle.trace_events.specs.Clocks.{InLineOrder}
+use Rattle.happens_before.specs.Causality.{direct, Chain, before}
+use Rattle.happens_before.proofs.Direct.{before-direct, direct-later}
 use Rattle.refusals.specs.Checks.{_▹_, refuseIf, refuseAt}
 use Rattle.order_check.specs.Types.{Event, Refusal}
 use Rattle.order_check.specs.Schedule.{complete, anyBefore, earlyFrom, firstEarly, checkOrder, EarlyAt, LowestEarly, KeepsOrder}
@@ -123,53 +125,57 @@ module _ (hb : ℕ → ℕ → Bool) where
       )
 
 -- the position is the lowest that holds an event put before one that happens before it
-pub early-iff : (es : List Event) (o : List ℕ) (p : ℕ) → (firstEarly es o ≡ some p) ↔ LowestEarly (before es) o p
-early-iff es o p = (is-lowest, λ r. go (firstEarly es o) refl r)
+pub early-iff : (delay : ℕ) (es : List Event) (o : List ℕ) (p : ℕ) → (firstEarly delay es o ≡ some p) ↔ LowestEarly (before delay es) o p
+early-iff delay es o p = (is-lowest, λ r. go (firstEarly delay es o) refl r)
   where
-    is-lowest : firstEarly es o ≡ some p → LowestEarly (before es) o p
-    is-lowest h = let s = first-early (before es) 0 o p h in let e : p ≡ s .0 = omega (arith, s .1) in rw e (s .2)
+    is-lowest : firstEarly delay es o ≡ some p → LowestEarly (before delay es) o p
+    is-lowest h = let s = first-early (before delay es) 0 o p h in let e : p ≡ s .0 = omega (arith, s .1) in rw e (s .2)
 
-    go : (x : Option ℕ) → firstEarly es o ≡ x → LowestEarly (before es) o p → firstEarly es o ≡ some p
-    go none e r = absurd (none-early (before es) 0 o e p (r .early))
+    go : (x : Option ℕ) → firstEarly delay es o ≡ x → LowestEarly (before delay es) o p → firstEarly delay es o ≡ some p
+    go none e r = absurd (none-early (before delay es) 0 o e p (r .early))
     go (some q) e r =
-        let s = first-early (before es) 0 o q e in
+        let s = first-early (before delay es) 0 o q e in
         let h : q ≡ s .0 = omega (arith, s .1) in
         e ∙ ap some (h ∙ same (s .0) (s .2) r)
       where
-        same : (d : ℕ) → LowestEarly (before es) o d → LowestEarly (before es) o p → d ≡ p
+        same : (d : ℕ) → LowestEarly (before delay es) o d → LowestEarly (before delay es) o p → d ≡ p
         same d a b = elim (decLt d p) [ yes l ↦ absurd (b .lowest d l (a .early)) | no m ↦ elim (decLt p d) [ yes l ↦ absurd (a .lowest p l (b .early)) | no n ↦ omega arith ] ]
 
-module _ (es : List Event) (o : List ℕ) (order : IsOrderOf (length es) o) where
+module _ (delay : ℕ) (es : List Event) (clocks : InLineOrder delay es) (o : List ℕ) (order : IsOrderOf (length es) o) where
   -- no position is early exactly if each event stands after all that happen before it
-  early-none-iff : (firstEarly es o ≡ none) ↔ KeepsOrder es o
-  early-none-iff = (λ h i j c. keeps h i j c, λ k. kept-none (before es) 0 o (λ i j e. clear k i j e))
+  early-none-iff : (firstEarly delay es o ≡ none) ↔ KeepsOrder delay es o
+  early-none-iff = (λ h i j c. keeps h i j c, λ k. kept-none (before delay es) 0 o (λ i j e. clear k i j e))
     where
-      keeps : firstEarly es o ≡ none → (i j : ℕ) → Chain (step es) i j → stands i j o ≡ true
+      keeps : firstEarly delay es o ≡ none → (i j : ℕ) → Chain (direct delay es) i j → stands i j o ≡ true
       keeps h i j c =
-          let l = chain-later es c in
+          let l = direct-later delay es clocks c in
           or-cases (stands i j o) (stands j i o) (one-first i j o (omega arith) (order .full i (omega arith)) (order .full j (l .1)))
           (λ e. e)
-          (λ e. absurd (false≢true (sym (none-kept (before es) 0 o h i j e) ∙ before-iff es i j .1 c)))
+          (λ e. absurd (false≢true (sym (none-kept (before delay es) 0 o h i j e) ∙ before-direct delay es clocks i j .1 c)))
 
-      clear : KeepsOrder es o → (i j : ℕ) → stands j i o ≡ true → before es i j ≡ false
+      clear : KeepsOrder delay es o → (i j : ℕ) → stands j i o ≡ true → before delay es i j ≡ false
       clear k i j e =
-          split (before es i j)
-          (λ b. let c = before-iff es i j .0 b in let l = chain-later es c in absurd (not-both order i j (omega arith) (k i j c) e))
+          split (before delay es i j)
+          (λ b. let c = before-direct delay es clocks i j .0 b in let l = direct-later delay es clocks c in absurd (not-both order i j (omega arith) (k i j c) e))
           (λ b. b)
 
--- an order is accepted exactly if it is one of the events and keeps happens-before
 passed-parts : (b : Bool) (x : Option ℕ) → (refuseIf (not b) Refusal.OrderIncomplete ▹ λ _. refuseAt x Refusal.EventTooEarly) ≡ inr tt → (b ≡ true) × (x ≡ none)
 passed-parts true none e = (refl, refl)
 passed-parts true (some p) e = let z : _≡_ {A = ℕ} 0 1 = cc in absurd (omega arith)
 passed-parts false x e = let z : _≡_ {A = ℕ} 0 1 = cc in absurd (omega arith)
 
-pub order-accepted-iff : (es : List Event) (o : List ℕ) → (checkOrder es o ≡ inr tt) ↔ (IsOrderOf (length es) o × KeepsOrder es o)
+-- an accepted order is one of the events
+pub accepted-complete : (delay : ℕ) (es : List Event) (o : List ℕ) → checkOrder delay es o ≡ inr tt → IsOrderOf (length es) o
 unfolding checkOrder
-order-accepted-iff es o = (
-  λ h. let p = passed-parts (complete (length es) o) (firstEarly es o) h in
-      let order = complete-iff (length es) o .0 (p .0) in
-      (order, early-none-iff es o order .0 (p .1)),
-  λ p. rw (complete-iff (length es) o .1 (p .0), early-none-iff es o (p .0) .1 (p .1)) refl,
+accepted-complete delay es o h = complete-iff (length es) o .0 (passed-parts (complete (length es) o) (firstEarly delay es o) h .0)
+
+-- where the time rule puts no later line before an earlier one: accepted exactly if it is one of the events and keeps happens-before
+pub order-accepted-iff : (delay : ℕ) (es : List Event) → InLineOrder delay es → (o : List ℕ) → (checkOrder delay es o ≡ inr tt) ↔ (IsOrderOf (length es) o × KeepsOrder delay es o)
+unfolding checkOrder
+order-accepted-iff delay es clocks o = (
+  λ h. let order = accepted-complete delay es o h in
+      (order, early-none-iff delay es clocks o order .0 (passed-parts (complete (length es) o) (firstEarly delay es o) h .1)),
+  λ p. rw (complete-iff (length es) o .1 (p .0), early-none-iff delay es clocks o (p .0) .1 (p .1)) refl,
 )
 
 -- ---- the recorded order
@@ -191,9 +197,9 @@ length-from b (suc n) = ap suc (length-from (suc b) n)
 pub recorded-order : (n : ℕ) → IsOrderOf n (from 0 n)
 recorded-order n = record { size = length-from 0 n; full = λ i l. has-from i 0 n (omega arith) (omega arith) }
 
-pub recorded-keeps : (es : List Event) → KeepsOrder es (from 0 (length es))
-recorded-keeps es i j c = let l = chain-later es c in stands-from i j 0 (length es) (omega arith) (l .0) (omega arith)
+pub recorded-keeps : (delay : ℕ) (es : List Event) → InLineOrder delay es → KeepsOrder delay es (from 0 (length es))
+recorded-keeps delay es clocks i j c = let l = direct-later delay es clocks c in stands-from i j 0 (length es) (omega arith) (l .0) (omega arith)
 
 -- the recorded order is never refused
-pub recorded-accepted : (es : List Event) → checkOrder es (from 0 (length es)) ≡ inr tt
-recorded-accepted es = order-accepted-iff es (from 0 (length es)) .1 (recorded-order (length es), recorded-keeps es)
+pub recorded-accepted : (delay : ℕ) (es : List Event) → InLineOrder delay es → checkOrder delay es (from 0 (length es)) ≡ inr tt
+recorded-accepted delay es clocks = order-accepted-iff delay es clocks (from 0 (length es)) .1 (recorded-order (length es), recorded-keeps delay es clocks)

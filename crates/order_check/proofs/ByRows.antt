@@ -23,10 +23,10 @@ module _ (hb : ℕ → ℕ → Bool) (n : ℕ) (o : List ℕ) {b : Bool} (asked 
   pub refuses-early : b ≡ true → (p : Option ℕ) → p ≡ earlyFrom hb 0 o → refuseAt p Refusal.EventTooEarly ≡ checkBy hb n o
   refuses-early e p q = rw (← asked, e) (ap (λ x. refuseAt x Refusal.EventTooEarly) q)
 
-module _ (es : List Event) (rows : List (List ℕ)) (holds : HappensBefore es rows) where
-  pub check-rows : (o : List ℕ) → checkBy (bit rows) (length es) o ≡ checkOrder es o
+module _ (delay : ℕ) (es : List Event) (rows : List (List ℕ)) (holds : HappensBefore delay es rows) where
+  pub check-rows : (o : List ℕ) → checkBy (bit rows) (length es) o ≡ checkOrder delay es o
   unfolding checkOrder
-  check-rows o = rw (early-like (bit rows) (before es) holds 0 o) refl
+  check-rows o = rw (early-like (bit rows) (before delay es) holds 0 o) refl
 
   pub rows-inside : (i j : ℕ) → bit rows i j ≡ true → i < length es
-  rows-inside i j e = let l = chain-later es (before-iff es i j .0 (sym (holds i j) ∙ e)) in omega arith
+  rows-inside i j e = let l = chain-later delay es (before-iff delay es i j .0 (sym (holds i j) ∙ e)) in omega arith

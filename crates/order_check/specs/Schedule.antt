@@ -8,7 +8,7 @@ use lib.Dec.{eqb}
 use lib.ListN.{length, getD}
 use Rattle.order_meaning.specs.Orders.{stands}
 use Rattle.basics.specs.Searches.{has, allBelow}
-use Rattle.happens_before.specs.Causality.{step, Chain, before}
+use Rattle.happens_before.specs.Causality.{direct, Chain, before}
 use Rattle.refusals.specs.Checks.{Checked, _▹_, refuseIf, refuseAt}
 use Rattle.order_check.specs.Types.{Event, Refusal}
 
@@ -27,8 +27,8 @@ earlyFrom hb k [] = none
 earlyFrom hb k (j ∷ o) = cond (anyBefore hb j o) (some k) (earlyFrom hb (k + 1) o)
 
 -- the lowest position that holds an event put before one that happens before it
-abbrev pub firstEarly : List Event → List ℕ → Option ℕ
-firstEarly es o = earlyFrom (before es) 0 o
+abbrev pub firstEarly : ℕ → List Event → List ℕ → Option ℕ
+firstEarly delay es o = earlyFrom (before delay es) 0 o
 
 -- 21 if the length of an order of n events is wrong or an event missing; then 22 at the first position that is early, as hb says
 abbrev pub checkBy : (ℕ → ℕ → Bool) → ℕ → List ℕ → Checked (Unit {0})
@@ -37,8 +37,8 @@ checkBy hb n o =
     refuseAt (earlyFrom hb 0 o) Refusal.EventTooEarly
 
 -- the same of a trace's events, by what happens before
-unfoldable pub checkOrder : List Event → List ℕ → Checked (Unit {0})
-checkOrder es o = checkBy (before es) (length es) o
+unfoldable pub checkOrder : ℕ → List Event → List ℕ → Checked (Unit {0})
+checkOrder delay es o = checkBy (before delay es) (length es) o
 
 -- a position that holds an event put before one that comes before it: a later position has that one
 pub record EarlyAt (hb : ℕ → ℕ → Bool) (o : List ℕ) (p : ℕ) : Type 0 where
@@ -53,5 +53,5 @@ pub record LowestEarly (hb : ℕ → ℕ → Bool) (o : List ℕ) (p : ℕ) : Ty
   pub lowest : (m : ℕ) → m < p → EarlyAt hb o m → ⊥
 
 -- each event stands after all that happen before it
-abbrev pub KeepsOrder : List Event → List ℕ → Type 0
-KeepsOrder es o = (i j : ℕ) → Chain (step es) i j → stands i j o ≡ true
+abbrev pub KeepsOrder : ℕ → List Event → List ℕ → Type 0
+KeepsOrder delay es o = (i j : ℕ) → Chain (direct delay es) i j → stands i j o ≡ true

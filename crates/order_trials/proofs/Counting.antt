@@ -75,11 +75,11 @@ module _ (f : ℕ → ℕ) where
         | no ne ↦ List·getD-append (gather (λ k. f k ∷ []) m) (f m ∷ []) 0 k (omega (arith, singles-length m, ne)) ∙ singles-at m k (omega (arith, ne))
       ]
 
-module _ (es : List Event) (start : Tables) (os : List ℕ) where
-  pub bytes-length : length (orderBytes es start os) ≡ orderCount (length es) (length os)
+module _ (delay : ℕ) (es : List Event) (start : Tables) (os : List ℕ) where
+  pub bytes-length : length (orderBytes delay es start os) ≡ orderCount (length es) (length os)
   unfolding orderBytes
   bytes-length = singles-length _ _
 
-  pub byte-at : (k : ℕ) → k < orderCount (length es) (length os) → getD (orderBytes es start os) k 0 ≡ orderByte es start (orderAt (length es) os k)
+  pub byte-at : (k : ℕ) → k < orderCount (length es) (length os) → getD (orderBytes delay es start os) k 0 ≡ orderByte delay es start (orderAt (length es) os k)
   unfolding orderBytes
   byte-at k h = singles-at _ _ k h

@@ -31,9 +31,9 @@ abbrev pub byteBy : Checked (Unit {0}) → Bool → ℕ
 byteBy (inl r) same = 2
 byteBy (inr u) same = cond same 0 1
 
-unfoldable pub orderByte : List Event → Tables → List ℕ → ℕ
-orderByte es start o = byteBy (checkOrder es o) (agreeing es start o (recorded es))
+unfoldable pub orderByte : ℕ → List Event → Tables → List ℕ → ℕ
+orderByte delay es start o = byteBy (checkOrder delay es o) (agreeing es start o (recorded es))
 
 -- a byte an order
-unfoldable pub orderBytes : List Event → Tables → List ℕ → List ℕ
-orderBytes es start os = gather (λ k. orderByte es start (orderAt (length es) os k) ∷ []) (orderCount (length es) (length os))
+unfoldable pub orderBytes : ℕ → List Event → Tables → List ℕ → List ℕ
+orderBytes delay es start os = gather (λ k. orderByte delay es start (orderAt (length es) os k) ∷ []) (orderCount (length es) (length os))

@@ -11,10 +11,10 @@ use Rattle.page_call.specs.Types.{Refusal, Event, Trace, PageAnswer}
 use Rattle.page_call.specs.Paged.{pageAnswer}
 
 -- 51, of the events of an accepted trace
-unfoldable pub fitted : List Event → ℕ → Checked (List ℕ)
-fitted es room =
-    refuseShort room (pageText es) Refusal.PageShort ▹ λ _.
-    inr (pageText es)
+unfoldable pub fitted : ℕ → List Event → ℕ → Checked (List ℕ)
+fitted delay es room =
+    refuseShort room (pageText delay es) Refusal.PageShort ▹ λ _.
+    inr (pageText delay es)
 
 -- an answer and a buffer, before and after, are as the page call leaves them
 pub record Pages (y : Checked (List ℕ)) (r : PageAnswer) (old new : List ℕ) : Type 0 where

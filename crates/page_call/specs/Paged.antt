@@ -1,4 +1,4 @@
--- Document 01, "The page" and refusals 1 to 8 and 51: what the page call makes of a trace and a buffer.
+-- Document 01, "The page" and refusals 1 to 8, 54, 55 and 51: what the page call makes of a trace and a buffer.
 use mathlib.Core.List.{List}
 use mathlib.Core.Logic.{inl, inr}
 use Prim.Native.Nat.{ℕ}
@@ -8,12 +8,12 @@ use Rattle.trace_text.specs.TraceText.{readTrace}
 use Rattle.page_text.specs.Page.{pageText}
 use Rattle.page_call.specs.Types.{Refusal, PageAnswer}
 
--- 1 to 8; then 51, the bytes needed, where the buffer has less room; else the page
-unfoldable pub paged : List ℕ → ℕ → Checked (List ℕ)
-paged trace room =
-    readTrace trace ▹ λ es.
-    refuseShort room (pageText es) Refusal.PageShort ▹ λ _.
-    inr (pageText es)
+-- 1 to 8, 54, 55; then 51, the bytes needed, where the buffer has less room; else the page
+unfoldable pub paged : ℕ → List ℕ → ℕ → Checked (List ℕ)
+paged delay trace room =
+    readTrace delay trace ▹ λ es.
+    refuseShort room (pageText delay es) Refusal.PageShort ▹ λ _.
+    inr (pageText delay es)
 
 -- what is returned: the page's length, or the refusal
 abbrev pub pageAnswer : Checked (List ℕ) → PageAnswer

@@ -13,12 +13,12 @@ ghost use Rattle.page_call.specs.Paged.{paged, pageAnswer};
 ghost use Rattle.page_call.specs.Inner.{fitted, Pages, Ranged};
 
 // 51 where the buffer is too short; else the page from its start.
-fn put_page(t: Trace, out: &mut [u8]) -> PageAnswer
+fn put_page(t: Trace, delay: u32, out: &mut [u8]) -> PageAnswer
     requires { ⌜ Ranged t ⌝ }
-    ensures { λ r. ⌜ Pages (fitted (eventsOf t) (length (now (out .entry)))) r (now (out .entry)) (now (out .exit)) ⌝ }
+    ensures { λ r. ⌜ Pages (fitted delay (eventsOf t) (length (now (out .entry)))) r (now (out .entry)) (now (out .exit)) ⌝ }
 {
     let mut pairs = list_pairs::pair_room();
-    let counts = list_pairs::list_of(t, &mut pairs);
+    let counts = list_pairs::list_of(t, delay, &mut pairs);
     let needed = 61 * (counts.listed + 4);
     if out.len() < needed {
         return PageAnswer::Refused(Refusal::PageShort(needed));
@@ -29,18 +29,18 @@ fn put_page(t: Trace, out: &mut [u8]) -> PageAnswer
     PageAnswer::Length(end)
 }
 
-// The page of a trace from the buffer's start, or what is refused. The bytes past it, or all after a refusal, stay as they were.
-pub fn page(trace: &[u8], out: &mut [u8]) -> PageAnswer
-    ensures { λ r. ⌜ r ≡ pageAnswer (paged (now (trace .entry)) (length (now (out .entry)))) ⌝ }
-    ensures { λ _. ⌜ now (out .exit) ≡ written (paged (now (trace .entry)) (length (now (out .entry)))) (now (out .entry)) ⌝ }
+// The page of a trace under a delay, from the buffer's start, or what is refused. The bytes past it, or all after a refusal, stay as they were.
+pub fn page(trace: &[u8], delay: u32, out: &mut [u8]) -> PageAnswer
+    ensures { λ r. ⌜ r ≡ pageAnswer (paged delay (now (trace .entry)) (length (now (out .entry)))) ⌝ }
+    ensures { λ _. ⌜ now (out .exit) ≡ written (paged delay (now (trace .entry)) (length (now (out .entry)))) (now (out .entry)) ⌝ }
 {
-    let read = trace_text::read_trace(trace);
+    let read = trace_text::read_trace(trace, delay);
     let outcome = read.outcome;
     match outcome {
         Outcome::Refused(r) => PageAnswer::Refused(r),
         Outcome::Accepted => {
             let events = read.trace;
-            put_page(events, out)
+            put_page(events, delay, out)
         }
     }
 }

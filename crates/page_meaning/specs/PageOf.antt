@@ -19,25 +19,25 @@ use Rattle.page_meaning.specs.Types.{Event}
 abbrev pub lineOn : List ℕ → ℕ → List ℕ
 lineOn page k = getD (lines page) k []
 
-pub record PageOf (es : List Event) (page : List ℕ) : Type 0 where
+pub record PageOf (delay : ℕ) (es : List Event) (page : List ℕ) : Type 0 where
   -- a line for each listed pair, and four; each ended by LF
-  pub many : length (lines page) ≡ countsOf es .listed + 4
+  pub many : length (lines page) ≡ countsOf delay es .listed + 4
   pub ended : unlines (lines page) ≡ page
   -- each of exactly 60 bytes before its LF, with no other LF
   pub wide : (k : ℕ) → k < length (lines page) → length (lineOn page k) ≡ 60
   pub plain : (k : ℕ) → has 10 (lineOn page k) ≡ false
-  pub size : length page ≡ 61 * (countsOf es .listed + 4)
+  pub size : length page ≡ 61 * (countsOf delay es .listed + 4)
   -- the pairs in the list's order, each in its columns; both events are of the switch that stands there
-  pub pairs : (k : ℕ) (p : Pair) → getElem? (listOf es) k ≡ some p → PairColumns (saidOf es p) (lineOn page k)
-  pub switches : (k : ℕ) (p : Pair) → getElem? (listOf es) k ≡ some p → switchOf (eventAt es (p .lower) .operation) ≡ switchOf (eventAt es (p .higher) .operation)
+  pub pairs : (k : ℕ) (p : Pair) → getElem? (listOf delay es) k ≡ some p → PairColumns (saidOf es p) (lineOn page k)
+  pub switches : (k : ℕ) (p : Pair) → getElem? (listOf delay es) k ≡ some p → switchOf (eventAt es (p .lower) .operation) ≡ switchOf (eventAt es (p .higher) .operation)
   -- the four counts
-  pub countPairs : CountColumns (bytes "pairs") (countsOf es .pairs) (lineOn page (countsOf es .listed))
-  pub countOrdered : CountColumns (bytes "ordered") (countsOf es .ordered) (lineOn page (countsOf es .listed + 1))
-  pub countCommuting : CountColumns (bytes "commuting") (countsOf es .commuting) (lineOn page (countsOf es .listed + 2))
-  pub countListed : CountColumns (bytes "listed") (countsOf es .listed) (lineOn page (countsOf es .listed + 3))
+  pub countPairs : CountColumns (bytes "pairs") (countsOf delay es .pairs) (lineOn page (countsOf delay es .listed))
+  pub countOrdered : CountColumns (bytes "ordered") (countsOf delay es .ordered) (lineOn page (countsOf delay es .listed + 1))
+  pub countCommuting : CountColumns (bytes "commuting") (countsOf delay es .commuting) (lineOn page (countsOf delay es .listed + 2))
+  pub countListed : CountColumns (bytes "listed") (countsOf delay es .listed) (lineOn page (countsOf delay es .listed + 3))
 
--- the same list, with the same switches, words and priorities, and the same counts
-pub record SamePage (es fs : List Event) : Type 0 where
-  pub list : listOf es ≡ listOf fs
-  pub said : pairLines es ≡ pairLines fs
-  pub counts : countsOf es ≡ countsOf fs
+-- the same list, with the same switches, words and priorities, and the same counts: of two traces, each under a delay
+pub record SamePage (d : ℕ) (es : List Event) (e : ℕ) (fs : List Event) : Type 0 where
+  pub list : listOf d es ≡ listOf e fs
+  pub said : pairLines d es ≡ pairLines e fs
+  pub counts : countsOf d es ≡ countsOf e fs

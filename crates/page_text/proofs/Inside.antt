@@ -16,10 +16,10 @@ bytes-below n (p ∷ ps) h zero l = h (p .lower) (p .higher) (List·Memᴰ·head
 bytes-below n (p ∷ ps) h (suc zero) l = h (p .lower) (p .higher) (List·Memᴰ·head refl) .1
 bytes-below n (p ∷ ps) h (suc (suc k)) l = bytes-below n ps (λ i j m. h i j (List·Memᴰ·tail m)) k (omega arith)
 
-pub list-inside : (t : Trace) (list : List ℕ) → list ≡ pairBytes (listOf (eventsOf t)) → (k : ℕ) → k < length list → getD list k 0 < t .len
+pub list-inside : (delay : ℕ) (t : Trace) (list : List ℕ) → list ≡ pairBytes (listOf delay (eventsOf t)) → (k : ℕ) → k < length list → getD list k 0 < t .len
 unfolding eventsOf
-list-inside t list e =
-    rw e (bytes-below (t .len) (listOf (eventsOf t)) (λ i j m.
-    let q = pairs-in (test listed (eventsOf t)) (length (eventsOf t)) i j .0 m in
+list-inside delay t list e =
+    rw e (bytes-below (t .len) (listOf delay (eventsOf t)) (λ i j m.
+    let q = pairs-in (test delay listed (eventsOf t)) (length (eventsOf t)) i j .0 m in
     let s = length-take (t .len) (t .events) in
     (omega (arith, q .0, q .1, s), omega (arith, q .1, s))))

@@ -34,6 +34,6 @@ all-plain [] ms h k = h k
 all-plain (l ∷ ls) ms h zero = pair-plain l
 all-plain (l ∷ ls) ms h (suc k) = all-plain ls ms h k
 
-pub page-lines : (es : List Event) → lines (pageText es) ≡ pageLines (pairLines es) (countsOf es)
+pub page-lines : (delay : ℕ) (es : List Event) → lines (pageText delay es) ≡ pageLines (pairLines delay es) (countsOf delay es)
 unfolding pageText pageLines
-page-lines es = lines-unlines (pageLines (pairLines es) (countsOf es)) (all-plain (pairLines es) (countTexts (countsOf es)) (counts-plain (countsOf es)))
+page-lines delay es = lines-unlines (pageLines (pairLines delay es) (countsOf delay es)) (all-plain (pairLines delay es) (countTexts (countsOf delay es)) (counts-plain (countsOf delay es)))

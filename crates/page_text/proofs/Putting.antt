@@ -39,12 +39,12 @@ pairs-lines es (p ∷ ps) =
     ∙ ap (λ (r : List ℕ). pairText (saidOf es p) ++ (10 ∷ r)) (pairs-lines es ps)
 
 -- the lines of the pairs and those of the counts are the page
-pub page-put : (es : List Event) (list : List ℕ) (c : Counts) {at n : ℕ} {xs ys zs : List ℕ} → list ≡ pairBytes (listOf es) → c ≡ countsOf es
-    → Put (pairsText es list) 0 xs at ys → Put (unlines (countTexts c)) at ys n zs → Put (pageText es) 0 xs n zs
+pub page-put : (delay : ℕ) (es : List Event) (list : List ℕ) (c : Counts) {at n : ℕ} {xs ys zs : List ℕ} → list ≡ pairBytes (listOf delay es) → c ≡ countsOf delay es
+    → Put (pairsText es list) 0 xs at ys → Put (unlines (countTexts c)) at ys n zs → Put (pageText delay es) 0 xs n zs
 unfolding pageText pageLines pairLines pairsText
-page-put es list c {n = n} {xs} {zs = zs} e f p q =
-    let g : eachPair (lineOfPair es) list ++ unlines (countTexts c) ≡ pageText es =
+page-put delay es list c {n = n} {xs} {zs = zs} e f p q =
+    let g : eachPair (lineOfPair es) list ++ unlines (countTexts c) ≡ pageText delay es =
     ap₂ (λ (l : List ℕ) (d : Counts). eachPair (lineOfPair es) l ++ unlines (countTexts d)) e f
-    ∙ ap (λ (t : List ℕ). t ++ unlines (countTexts (countsOf es))) (pairs-lines es (listOf es))
-    ∙ sym (unlines-append (map pairText (map (saidOf es) (listOf es))) (countTexts (countsOf es))) in
+    ∙ ap (λ (t : List ℕ). t ++ unlines (countTexts (countsOf delay es))) (pairs-lines es (listOf delay es))
+    ∙ sym (unlines-append (map pairText (map (saidOf es) (listOf delay es))) (countTexts (countsOf delay es))) in
     subst (λ (t : List ℕ). Put t 0 xs n zs) g (put-then p q)

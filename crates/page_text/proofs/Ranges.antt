@@ -50,6 +50,6 @@ module _ (es : List Event) (range : (i : ℕ) → EventInRange (eventAt es i)) w
       let q = h (p .lower) (p .higher) (List·Memᴰ·head refl) in
       (said-range p (q .0) (q .1), all-range ps (λ i j m. h i j (List·Memᴰ·tail m)))
 
-  pub lines-range : length es ≤ 256 → AllInRange (pairLines es)
+  pub lines-range : (delay : ℕ) → length es ≤ 256 → AllInRange (pairLines delay es)
   unfolding pairLines
-  lines-range few = all-range (listOf es) (λ i j m. let q = pairs-in (test listed es) (length es) i j .0 m in (omega (arith, q .0, q .1), omega (arith, q .1)))
+  lines-range delay few = all-range (listOf delay es) (λ i j m. let q = pairs-in (test delay listed es) (length es) i j .0 m in (omega (arith, q .0, q .1), omega (arith, q .1)))

@@ -72,13 +72,13 @@ pub lines-many : (ls : List PairLine) (c : Counts) → length (pageLines ls c) �
 unfolding pageLines
 lines-many ls c = rw (length-append, length-map ls pairText) refl
 
-pub pairs-many : (es : List Event) → length (pairLines es) ≡ count listed es
+pub pairs-many : (delay : ℕ) (es : List Event) → length (pairLines delay es) ≡ count delay listed es
 unfolding pairLines
-pairs-many es = length-map (listOf es) (saidOf es)
+pairs-many delay es = length-map (listOf delay es) (saidOf es)
 
 -- the length of a page
-pub page-length : (es : List Event) → AllInRange (pairLines es) → length (pageText es) ≡ 61 * (count listed es + 4)
+pub page-length : (delay : ℕ) (es : List Event) → AllInRange (pairLines delay es) → length (pageText delay es) ≡ 61 * (count delay listed es + 4)
 unfolding pageText
-page-length es h =
-    unlines-length (pageLines (pairLines es) (countsOf es)) (lines-wide (pairLines es) (countsOf es) h)
-    ∙ ap (λ (n : ℕ). 61 * n) (lines-many (pairLines es) (countsOf es) ∙ ap (λ (n : ℕ). n + 4) (pairs-many es))
+page-length delay es h =
+    unlines-length (pageLines (pairLines delay es) (countsOf delay es)) (lines-wide (pairLines delay es) (countsOf delay es) h)
+    ∙ ap (λ (n : ℕ). 61 * n) (lines-many (pairLines delay es) (countsOf delay es) ∙ ap (λ (n : ℕ). n + 4) (pairs-many delay es))

@@ -49,12 +49,12 @@ same-counts c d h k e =
     λ i. record { pairs = p i; ordered = o i; commuting = m i; listed = l i }
 
 -- ---- the page
-module _ (es fs : List Event) (h : AllInRange (pairLines es)) (k : AllInRange (pairLines fs)) (small : Small (countsOf es)) (small' : Small (countsOf fs)) where
-  pub page-unique : pageText es ≡ pageText fs → (pairLines es ≡ pairLines fs) × (countsOf es ≡ countsOf fs)
+module _ (d e : ℕ) (es fs : List Event) (h : AllInRange (pairLines d es)) (k : AllInRange (pairLines e fs)) (small : Small (countsOf d es)) (small' : Small (countsOf e fs)) where
+  pub page-unique : pageText d es ≡ pageText e fs → (pairLines d es ≡ pairLines e fs) × (countsOf d es ≡ countsOf e fs)
   unfolding pageLines
-  page-unique e =
-      let (p, c) = same-pairs (pairLines es) (pairLines fs) h k (countTexts (countsOf es)) (countTexts (countsOf fs)) refl (sym (page-lines es) ∙ ap lines e ∙ page-lines fs) in
-      (p, same-counts (countsOf es) (countsOf fs) small small' c)
+  page-unique p =
+      let (q, c) = same-pairs (pairLines d es) (pairLines e fs) h k (countTexts (countsOf d es)) (countTexts (countsOf e fs)) refl (sym (page-lines d es) ∙ ap lines p ∙ page-lines e fs) in
+      (q, same-counts (countsOf d es) (countsOf e fs) small small' c)
 
 -- ---- the list, by what the page says of its pairs
 abbrev pairIn : PairLine → Pair
@@ -65,6 +65,6 @@ unfolding pairLineOf mentionOf
 pairs-back es [] = refl
 pairs-back es (p ∷ ps) = ap (λ (r : List Pair). p ∷ r) (pairs-back es ps)
 
-pub list-said : (es fs : List Event) → pairLines es ≡ pairLines fs → listOf es ≡ listOf fs
+pub list-said : (d e : ℕ) (es fs : List Event) → pairLines d es ≡ pairLines e fs → listOf d es ≡ listOf e fs
 unfolding pairLines
-list-said es fs e = sym (pairs-back es (listOf es)) ∙ ap (map pairIn) e ∙ pairs-back fs (listOf fs)
+list-said d e es fs p = sym (pairs-back es (listOf d es)) ∙ ap (map pairIn) p ∙ pairs-back fs (listOf e fs)

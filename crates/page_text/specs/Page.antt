@@ -17,8 +17,8 @@ abbrev pub saidOf : List Event → Pair → PairLine
 saidOf es p = pairLineOf (p .lower) (eventAt es (p .lower) .operation) (p .higher) (eventAt es (p .higher) .operation)
 
 -- and of the listed pairs, in the list's order
-unfoldable pub pairLines : List Event → List PairLine
-pairLines es = map (saidOf es) (listOf es)
+unfoldable pub pairLines : ℕ → List Event → List PairLine
+pairLines delay es = map (saidOf es) (listOf delay es)
 
 -- a count: name at column 1, number right-justified to column 60
 unfoldable pub countText : List ℕ → ℕ → List ℕ
@@ -38,8 +38,8 @@ unfoldable pub pageLines : List PairLine → Counts → List (List ℕ)
 pageLines ls c = map pairText ls ++ countTexts c
 
 -- the page of a trace's events, each line ended by LF
-unfoldable pub pageText : List Event → List ℕ
-pageText es = unlines (pageLines (pairLines es) (countsOf es))
+unfoldable pub pageText : ℕ → List Event → List ℕ
+pageText delay es = unlines (pageLines (pairLines delay es) (countsOf delay es))
 
 -- the columns of a count, as document 01 has them (`count-columns`, proofs/CountColumns.antt: its line is so)
 pub record CountColumns (name : List ℕ) (n : ℕ) (line : List ℕ) : Type 0 where

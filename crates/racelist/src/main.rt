@@ -1,11 +1,12 @@
 // Reads a trace from standard input, and writes its races and their counts, or what is refused, to standard output.
+use program_delay::DELAY;
 ghost use mathlib.Core.Path.{_≡_};
 ghost use lib.ListN.{length, replicate};
 
 // Room for all that is printed of any trace.
 fn answer_in_full(trace: &[u8]) {
     let mut out = list_report::room();
-    let n = list_report::report(trace, &mut out);
+    let n = list_report::report(trace, DELAY, &mut out);
     program_output::write(&out[..n]);
 }
 
@@ -20,7 +21,7 @@ fn short_room() -> [u8; 16384]
 fn answer(trace: &[u8]) {
     if trace.len() <= 8192 {
         let mut out = short_room();
-        let n = list_report::report(trace, &mut out);
+        let n = list_report::report(trace, DELAY, &mut out);
         if n <= 16384 {
             program_output::write(&out[..n]);
             return;

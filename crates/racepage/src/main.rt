@@ -1,5 +1,6 @@
 // Reads a trace from standard input, and writes the page of its list, or what is refused, to standard output.
 use call_answers::PageAnswer;
+use program_delay::DELAY;
 ghost use mathlib.Core.Path.{_≡_};
 ghost use lib.ListN.{length};
 ghost use Rattle.basics.specs.Text.{zeros};
@@ -13,7 +14,7 @@ fn page_room() -> [u8; 1991284]
 
 fn answer(trace: &[u8]) {
     let mut out = page_room();
-    let a = page_call::page(trace, &mut out);
+    let a = page_call::page(trace, DELAY, &mut out);
     match a {
         PageAnswer::Length(n) => {
             program_output::write(text_lines::front(&out, n));

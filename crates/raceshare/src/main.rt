@@ -1,8 +1,9 @@
 // Reads a trace from standard input, and writes how many of its unordered pairs commute, or what is refused, to standard output.
 use call_answers::ShareAnswer;
+use program_delay::DELAY;
 
 fn answer(trace: &[u8]) {
-    let a = share_call::share(trace);
+    let a = share_call::share(trace, DELAY);
     match a {
         ShareAnswer::Share(x) => {
             let mut out = [0u8; 109];

@@ -91,3 +91,8 @@ module _ {A : Type 0} (m : Refusal) {x y : Option A} where
   -- the answer of a reader that reads the rest, for the whole
   pub carried-on : {z : Checked A} → z ≡ refuseNone x m → x ≡ y → z ≡ refuseNone y m
   carried-on p e = p ∙ or-refused e
+
+-- ---- the outcome of a search for the lowest place
+abbrev pub placed : (ℕ → Refusal) → Option ℕ → Outcome
+placed refusal none = Outcome.Accepted
+placed refusal (some j) = Outcome.Refused (refusal j)

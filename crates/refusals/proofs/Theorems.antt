@@ -38,3 +38,5 @@ no-41 (Refusal.AnswersShort needed) e = omega arith
 no-41 (Refusal.PageShort needed) e = omega arith
 no-41 Refusal.OrdersUneven e = omega arith
 no-41 (Refusal.TrialsShort needed) e = omega arith
+no-41 (Refusal.RangeReversed line) e = omega arith
+no-41 (Refusal.TimeBackward earlier) e = omega arith

@@ -47,6 +47,10 @@ returned (Refusal.PageShort needed) = refusalRow 51 needed Source.Neither
 returned Refusal.OrdersUneven = refusalRow 52 0 Source.Neither
 -- byte buffer too short, a byte an order
 returned (Refusal.TrialsShort needed) = refusalRow 53 needed Source.Neither
+-- `from` above `to`
+returned (Refusal.RangeReversed line) = refusalRow 54 line Source.Trace
+-- the time rule puts a later line before an earlier one
+returned (Refusal.TimeBackward earlier) = refusalRow 55 earlier Source.Trace
 
 abbrev pub numberOf : Refusal → ℕ
 numberOf r = returned r .number

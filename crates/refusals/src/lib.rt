@@ -10,4 +10,5 @@ pub use refusal::Refusal;
 pub use refusal::Returned;
 pub use refusal::Source;
 pub use refusal::first_of;
+pub use refusal::refused_if;
 pub use refused::Refused;

@@ -1,5 +1,6 @@
 // Document 01's table of refusals: each with its place, a line, a position or the bytes needed.
 ghost use mathlib.Core.Path.{_≡_};
+ghost use mathlib.Core.Bool.{cond};
 ghost use Rattle.refusals.specs.Checks.{firstOf};
 ghost use Rattle.refusals.specs.Refusals.{refusalRow, returned};
 
@@ -26,6 +27,8 @@ pub enum Refusal {
     PageShort(usize),
     OrdersUneven,
     TrialsShort(usize),
+    RangeReversed(usize),
+    TimeBackward(usize),
 }
 
 // What a check answers: accepted, or what is refused.
@@ -42,6 +45,15 @@ pub fn first_of(a: Outcome, b: Outcome) -> Outcome
         Outcome::Refused(_) => a,
         Outcome::Accepted => b,
     }
+}
+
+pub fn refused_if(found: bool, refusal: Refusal) -> Outcome
+    ensures { λ r. ⌜ r ≡ cond found (Outcome.Refused refusal) Outcome.Accepted ⌝ }
+{
+    if found {
+        return Outcome::Refused(refusal);
+    }
+    Outcome::Accepted
 }
 
 // The text that the place of a refusal is a line of.
@@ -95,6 +107,8 @@ impl Refusal {
             Refusal::PageShort(needed) => row(51, needed, Source::Neither),
             Refusal::OrdersUneven => row(52, 0, Source::Neither),
             Refusal::TrialsShort(needed) => row(53, needed, Source::Neither),
+            Refusal::RangeReversed(line) => row(54, line, Source::Trace),
+            Refusal::TimeBackward(earlier) => row(55, earlier, Source::Trace),
         }
     }
 }

@@ -41,18 +41,18 @@ module _ {A B : Type 0} (x : Checked A) (room : ℕ) (text : A → List ℕ) (re
       let (a, e, f) = handed-on x (λ a. refuseShort room (text a) refusal ▹ λ _. inr (value a)) h in
       (a, e, same-value (handed-on (refuseShort room (text a) refusal) (λ _. inr (value a)) f .2))
 
-listed-on : (trace : List ℕ) (room : ℕ) (l : Listing) → listRaces trace room ≡ inr l → (es : List Event) × (readTrace trace ≡ inr es) × (listingOf es ≡ l)
+listed-on : (delay : ℕ) (trace : List ℕ) (room : ℕ) (l : Listing) → listRaces delay trace room ≡ inr l → (es : List Event) × (readTrace delay trace ≡ inr es) × (listingOf delay es ≡ l)
 unfolding listRaces
-listed-on trace room l h = fits-on (readTrace trace) room (λ es. pairBytes (listOf es)) Refusal.ListShort listingOf h
+listed-on delay trace room l h = fits-on (readTrace delay trace) room (λ es. pairBytes (listOf delay es)) Refusal.ListShort (listingOf delay) h
 
-page-on : (trace : List ℕ) (room : ℕ) (t : List ℕ) → paged trace room ≡ inr t → (es : List Event) × (readTrace trace ≡ inr es) × (pageText es ≡ t)
+page-on : (delay : ℕ) (trace : List ℕ) (room : ℕ) (t : List ℕ) → paged delay trace room ≡ inr t → (es : List Event) × (readTrace delay trace ≡ inr es) × (pageText delay es ≡ t)
 unfolding paged
-page-on trace room t h = fits-on (readTrace trace) room pageText Refusal.PageShort pageText h
+page-on delay trace room t h = fits-on (readTrace delay trace) room (pageText delay) Refusal.PageShort (pageText delay) h
 
-shared-on : (trace : List ℕ) (x : Share) → shared trace ≡ inr x → (es : List Event) × (readTrace trace ≡ inr es) × (shareOf (countsOf es) ≡ x)
+shared-on : (delay : ℕ) (trace : List ℕ) (x : Share) → shared delay trace ≡ inr x → (es : List Event) × (readTrace delay trace ≡ inr es) × (shareOf (countsOf delay es) ≡ x)
 unfolding shared
-shared-on trace x h =
-    let (es, e, f) = handed-on (readTrace trace) (λ es. inr (shareOf (countsOf es))) h in
+shared-on delay trace x h =
+    let (es, e, f) = handed-on (readTrace delay trace) (λ es. inr (shareOf (countsOf delay es))) h in
     (es, e, same-value f)
 
 normal-on : (tables : List ℕ) (room : ℕ) (t : List ℕ) → normalised tables room ≡ inr t → (rs : List Row) × (readTables tables ≡ inr rs) × (normalText rs ≡ t)
@@ -60,99 +60,99 @@ unfolding normalised
 normal-on tables room t h = fits-on (readTables tables) room normalText Refusal.TablesShort normalText h
 
 -- what follows both texts
-both-on : {A : Type 0} (trace tables : List ℕ) (next : List Event → List Row → Checked A) {x : A} → (readTrace trace ▹ λ es. readTables tables ▹ λ rs. next es rs) ≡ inr x
-    → (es : List Event) × (readTrace trace ≡ inr es) × ((rs : List Row) × (readTables tables ≡ inr rs) × (next es rs ≡ inr x))
-both-on trace tables next h =
-    let (es, e, f) = handed-on (readTrace trace) (λ es. readTables tables ▹ λ rs. next es rs) h in
+both-on : (delay : ℕ) {A : Type 0} (trace tables : List ℕ) (next : List Event → List Row → Checked A) {x : A} → (readTrace delay trace ▹ λ es. readTables tables ▹ λ rs. next es rs) ≡ inr x
+    → (es : List Event) × (readTrace delay trace ≡ inr es) × ((rs : List Row) × (readTables tables ≡ inr rs) × (next es rs ≡ inr x))
+both-on delay trace tables next h =
+    let (es, e, f) = handed-on (readTrace delay trace) (λ es. readTables tables ▹ λ rs. next es rs) h in
     (es, e, handed-on (readTables tables) (λ rs. next es rs) f)
 
-module _ (trace tables o : List ℕ) (room room' : ℕ) (x : Replayed) where
-  texts-on : (es : List Event) (rs : List Row) → fromTables es (tablesOf rs) o room room' ≡ inr x → textsOf es o (tablesOf rs) ≡ x
+module _ (delay : ℕ) (trace tables o : List ℕ) (room room' : ℕ) (x : Replayed) where
+  texts-on : (es : List Event) (rs : List Row) → fromTables delay es (tablesOf rs) o room room' ≡ inr x → textsOf es o (tablesOf rs) ≡ x
   texts-on es rs h =
       let texts = textsOf es o (tablesOf rs) in
-      let ordered = handed-on (checkOrder es o) (λ _. fittingBoth texts room room') h in
+      let ordered = handed-on (checkOrder delay es o) (λ _. fittingBoth texts room room') h in
       fits-on (refuseShort room (texts .tables) Refusal.TablesShort) room' (λ _. texts .answers) Refusal.AnswersShort (λ _. texts) (ordered .2) .2
 
-  replayed-on : replayed trace tables o room room' ≡ inr x
-      → (es : List Event) × (readTrace trace ≡ inr es) × ((rs : List Row) × (readTables tables ≡ inr rs) × (textsOf es o (tablesOf rs) ≡ x))
+  replayed-on : replayed delay trace tables o room room' ≡ inr x
+      → (es : List Event) × (readTrace delay trace ≡ inr es) × ((rs : List Row) × (readTables tables ≡ inr rs) × (textsOf es o (tablesOf rs) ≡ x))
   unfolding replayed
   replayed-on h =
-      let (es, e, (rs, k, g)) = both-on trace tables (λ es rs. fromTables es (tablesOf rs) o room room') h in
+      let (es, e, (rs, k, g)) = both-on delay trace tables (λ es rs. fromTables delay es (tablesOf rs) o room room') h in
       (es, e, (rs, k, texts-on es rs g))
 
-module _ (trace tables os : List ℕ) (room : ℕ) (x : List ℕ) where
-  tried-on : tried trace tables os room ≡ inr x
-      → (es : List Event) × (readTrace trace ≡ inr es) × ((rs : List Row) × (readTables tables ≡ inr rs) × (orderBytes es (tablesOf rs) os ≡ x))
+module _ (delay : ℕ) (trace tables os : List ℕ) (room : ℕ) (x : List ℕ) where
+  tried-on : tried delay trace tables os room ≡ inr x
+      → (es : List Event) × (readTrace delay trace ≡ inr es) × ((rs : List Row) × (readTables tables ≡ inr rs) × (orderBytes delay es (tablesOf rs) os ≡ x))
   unfolding tried
   tried-on h =
-      let (es, e, (rs, k, g)) = both-on trace tables (λ es rs. triedFrom es (tablesOf rs) os room) h in
-      let bytes = orderBytes es (tablesOf rs) os in
+      let (es, e, (rs, k, g)) = both-on delay trace tables (λ es rs. triedFrom delay es (tablesOf rs) os room) h in
+      let bytes = orderBytes delay es (tablesOf rs) os in
       let (u, v, f) = fits-on (refuseIf (uneven (length es) (length os)) Refusal.OrdersUneven) room (λ _. bytes) Refusal.TrialsShort (λ _. bytes) g in
       (es, e, (rs, k, f))
 
 -- ---- the calls
-module _ (trace : List ℕ) (room : ℕ) (es : List Event) (g : listRaces trace room ≡ inr (listingOf es)) where
-  counts-of : listAnswer (listRaces trace room) ≡ ListAnswer.Counts (countsOf es)
+module _ (delay : ℕ) (trace : List ℕ) (room : ℕ) (es : List Event) (g : listRaces delay trace room ≡ inr (listingOf delay es)) where
+  counts-of : listAnswer (listRaces delay trace room) ≡ ListAnswer.Counts (countsOf delay es)
   unfolding listingOf
   counts-of = ap listAnswer g
 
-  bytes-of : (old : List ℕ) → written (listOut (listRaces trace room)) old ≡ startingWith (pairBytes (listOf es)) old
+  bytes-of : (old : List ℕ) → written (listOut (listRaces delay trace room)) old ≡ startingWith (pairBytes (listOf delay es)) old
   unfolding listingOf
   bytes-of old = ap (λ y. written (listOut y) old) g
 
-list-does : (trace old : List ℕ) → ListRefused trace old ⊎ ListDone trace old
-list-does trace old = go (listRaces trace (length old)) refl
+list-does : (delay : ℕ) (trace old : List ℕ) → ListRefused delay trace old ⊎ ListDone delay trace old
+list-does delay trace old = go (listRaces delay trace (length old)) refl
   where
-    go : (y : Checked Listing) → listRaces trace (length old) ≡ y → ListRefused trace old ⊎ ListDone trace old
+    go : (y : Checked Listing) → listRaces delay trace (length old) ≡ y → ListRefused delay trace old ⊎ ListDone delay trace old
     go (inl r) e = inl (record {
       refusal = r;
-      first = list-refused-iff trace (length old) r .0 e;
+      first = list-refused-iff delay trace (length old) r .0 e;
       returned = ap listAnswer e;
       unchanged = ap (λ y. written (listOut y) old) e;
     })
     go (inr l) e =
-        let (es, h, f) = listed-on trace (length old) l e in
-        let g : listRaces trace (length old) ≡ inr (listingOf es) = e ∙ ap inr (sym f) in
+        let (es, h, f) = listed-on delay trace (length old) l e in
+        let g : listRaces delay trace (length old) ≡ inr (listingOf delay es) = e ∙ ap inr (sym f) in
         inr (record {
-          none = handed-none (listRaces trace (length old)) (listCauses trace (length old)) (list-refused-iff trace (length old)) .0 (l, e);
+          none = handed-none (listRaces delay trace (length old)) (listCauses delay trace (length old)) (list-refused-iff delay trace (length old)) .0 (l, e);
           events = es;
-          accepted = trace-accepted-iff trace es .0 h;
-          returned = counts-of trace (length old) es g;
-          bytes = bytes-of trace (length old) es g old;
+          accepted = trace-accepted-iff delay trace es .0 h;
+          returned = counts-of delay trace (length old) es g;
+          bytes = bytes-of delay trace (length old) es g old;
         })
 
-page-does : (trace old : List ℕ) → PageRefused trace old ⊎ PageDone trace old
-page-does trace old = go (paged trace (length old)) refl
+page-does : (delay : ℕ) (trace old : List ℕ) → PageRefused delay trace old ⊎ PageDone delay trace old
+page-does delay trace old = go (paged delay trace (length old)) refl
   where
-    go : (y : Checked (List ℕ)) → paged trace (length old) ≡ y → PageRefused trace old ⊎ PageDone trace old
+    go : (y : Checked (List ℕ)) → paged delay trace (length old) ≡ y → PageRefused delay trace old ⊎ PageDone delay trace old
     go (inl r) e = inl (record {
       refusal = r;
-      first = page-refused-iff trace (length old) r .0 e;
+      first = page-refused-iff delay trace (length old) r .0 e;
       returned = ap pageAnswer e;
       unchanged = ap (λ y. written y old) e;
     })
     go (inr t) e =
-        let (es, h, f) = page-on trace (length old) t e in
-        let g : paged trace (length old) ≡ inr (pageText es) = e ∙ ap inr (sym f) in
+        let (es, h, f) = page-on delay trace (length old) t e in
+        let g : paged delay trace (length old) ≡ inr (pageText delay es) = e ∙ ap inr (sym f) in
         inr (record {
-          none = handed-none (paged trace (length old)) (pageCauses trace (length old)) (page-refused-iff trace (length old)) .0 (t, e);
+          none = handed-none (paged delay trace (length old)) (pageCauses delay trace (length old)) (page-refused-iff delay trace (length old)) .0 (t, e);
           events = es;
-          accepted = trace-accepted-iff trace es .0 h;
+          accepted = trace-accepted-iff delay trace es .0 h;
           returned = ap pageAnswer g;
           bytes = ap (λ y. written y old) g;
         })
 
-share-does : (trace : List ℕ) → ShareRefused trace ⊎ ShareDone trace
-share-does trace = go (shared trace) refl
+share-does : (delay : ℕ) (trace : List ℕ) → ShareRefused delay trace ⊎ ShareDone delay trace
+share-does delay trace = go (shared delay trace) refl
   where
-    go : (y : Checked Share) → shared trace ≡ y → ShareRefused trace ⊎ ShareDone trace
-    go (inl r) e = inl (record { refusal = r; first = share-refused-iff trace r .0 e; returned = ap shareAnswer e })
+    go : (y : Checked Share) → shared delay trace ≡ y → ShareRefused delay trace ⊎ ShareDone delay trace
+    go (inl r) e = inl (record { refusal = r; first = share-refused-iff delay trace r .0 e; returned = ap shareAnswer e })
     go (inr x) e =
-        let (es, h, f) = shared-on trace x e in
+        let (es, h, f) = shared-on delay trace x e in
         inr (record {
-          none = handed-none (shared trace) (shareCauses trace) (share-refused-iff trace) .0 (x, e);
+          none = handed-none (shared delay trace) (shareCauses delay trace) (share-refused-iff delay trace) .0 (x, e);
           events = es;
-          accepted = trace-accepted-iff trace es .0 h;
+          accepted = trace-accepted-iff delay trace es .0 h;
           returned = ap shareAnswer (e ∙ ap inr (sym f));
         })
 
@@ -177,25 +177,25 @@ normal-does tables old = go (normalised tables (length old)) refl
           bytes = ap (λ y. written y old) g;
         })
 
-replay-does : (trace tables o old old' : List ℕ) → ReplayRefused trace tables o old old' ⊎ ReplayDone trace tables o old old'
-replay-does trace tables o old old' = go (replayed trace tables o (length old) (length old')) refl
+replay-does : (delay : ℕ) (trace tables o old old' : List ℕ) → ReplayRefused delay trace tables o old old' ⊎ ReplayDone delay trace tables o old old'
+replay-does delay trace tables o old old' = go (replayed delay trace tables o (length old) (length old')) refl
   where
-    go : (y : Checked Replayed) → replayed trace tables o (length old) (length old') ≡ y → ReplayRefused trace tables o old old' ⊎ ReplayDone trace tables o old old'
+    go : (y : Checked Replayed) → replayed delay trace tables o (length old) (length old') ≡ y → ReplayRefused delay trace tables o old old' ⊎ ReplayDone delay trace tables o old old'
     go (inl r) e = inl (record {
       refusal = r;
-      first = replay-refused-iff trace tables o (length old) (length old') r .0 e;
+      first = replay-refused-iff delay trace tables o (length old) (length old') r .0 e;
       returned = ap replayAnswer e;
       unchanged = ap (λ y. written (tablesOut y) old) e;
       unchanged' = ap (λ y. written (answersOut y) old') e;
     })
     go (inr x) e =
-        let (es, h, (rs, k, f)) = replayed-on trace tables o (length old) (length old') x e in
-        let g : replayed trace tables o (length old) (length old') ≡ inr (textsOf es o (tablesOf rs)) = e ∙ ap inr (sym f) in
+        let (es, h, (rs, k, f)) = replayed-on delay trace tables o (length old) (length old') x e in
+        let g : replayed delay trace tables o (length old) (length old') ≡ inr (textsOf es o (tablesOf rs)) = e ∙ ap inr (sym f) in
         inr (record {
-          none = handed-none (replayed trace tables o (length old) (length old')) (replayCauses trace tables o (length old) (length old')) (replay-refused-iff trace tables o (length old) (length old')) .0 (x, e);
+          none = handed-none (replayed delay trace tables o (length old) (length old')) (replayCauses delay trace tables o (length old) (length old')) (replay-refused-iff delay trace tables o (length old) (length old')) .0 (x, e);
           events = es;
           rows = rs;
-          accepted = trace-accepted-iff trace es .0 h;
+          accepted = trace-accepted-iff delay trace es .0 h;
           held = tables-accepted-iff tables rs .0 k;
           ends = textsOf es o (tablesOf rs) .tables;
           lines = textsOf es o (tablesOf rs) .answers;
@@ -206,23 +206,23 @@ replay-does trace tables o old old' = go (replayed trace tables o (length old) (
           bytes' = ap (λ y. written (answersOut y) old') g;
         })
 
-trials-does : (trace tables os old : List ℕ) → TrialsRefused trace tables os old ⊎ TrialsDone trace tables os old
-trials-does trace tables os old = go (tried trace tables os (length old)) refl
+trials-does : (delay : ℕ) (trace tables os old : List ℕ) → TrialsRefused delay trace tables os old ⊎ TrialsDone delay trace tables os old
+trials-does delay trace tables os old = go (tried delay trace tables os (length old)) refl
   where
-    go : (y : Checked (List ℕ)) → tried trace tables os (length old) ≡ y → TrialsRefused trace tables os old ⊎ TrialsDone trace tables os old
+    go : (y : Checked (List ℕ)) → tried delay trace tables os (length old) ≡ y → TrialsRefused delay trace tables os old ⊎ TrialsDone delay trace tables os old
     go (inl r) e = inl (record {
       refusal = r;
-      first = trials-refused-iff trace tables os (length old) r .0 e;
+      first = trials-refused-iff delay trace tables os (length old) r .0 e;
       returned = ap trialsAnswer e;
       unchanged = ap (λ y. written y old) e;
     })
     go (inr x) e =
-        let (es, h, (rs, k, f)) = tried-on trace tables os (length old) x e in
+        let (es, h, (rs, k, f)) = tried-on delay trace tables os (length old) x e in
         inr (record {
-          none = handed-none (tried trace tables os (length old)) (trialsCauses trace tables os (length old)) (trials-refused-iff trace tables os (length old)) .0 (x, e);
+          none = handed-none (tried delay trace tables os (length old)) (trialsCauses delay trace tables os (length old)) (trials-refused-iff delay trace tables os (length old)) .0 (x, e);
           events = es;
           rows = rs;
-          accepted = trace-accepted-iff trace es .0 h;
+          accepted = trace-accepted-iff delay trace es .0 h;
           held = tables-accepted-iff tables rs .0 k;
           bytes = x;
           bytes-are = sym f;
@@ -230,5 +230,5 @@ trials-does trace tables os old = go (tried trace tables os (length old)) refl
           buffer = ap (λ y. written y old) e;
         })
 
-pub demand-1 : Demand1
-demand-1 = record { list = list-does; page = page-does; share = share-does; normalise = normal-does; replay = replay-does; trials = trials-does }
+pub demand-1 : (delay : ℕ) → Demand1 delay
+demand-1 delay = record { list = list-does delay; page = page-does delay; share = share-does delay; normalise = normal-does; replay = replay-does delay; trials = trials-does delay }

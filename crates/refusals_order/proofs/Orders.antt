@@ -12,7 +12,8 @@ use borrow.Author.Tests.{eqb-false, not-true}
 use Rattle.basics.specs.Searches.{has, allBelow, Lowest}
 use Rattle.basics.proofs.Booleans.{split, and-cases}
 use Rattle.happens_before.specs.Causality.{before}
-use Rattle.happens_before.proofs.Chains.{before-iff}
+use Rattle.trace_events.specs.Clocks.{InLineOrder}
+use Rattle.happens_before.proofs.Direct.{before-direct}
 use Rattle.refusals.specs.Checks.{refuseIf, refuseAt}
 use Rattle.order_check.specs.Schedule.{complete, firstEarly, checkOrder, EarlyAt}
 use Rattle.order_check.proofs.Flags.{complete-iff}
@@ -28,7 +29,7 @@ missing : (p : ℕ → Bool) (n : ℕ) → allBelow p n ≡ false → (i : ℕ) 
 missing p zero e = absurd (true≢false e)
 missing p (suc n) e = and-cases (allBelow p n) (p n) e (λ f. let (i, l, h) = missing p n f in (i, omega arith, h)) (λ f. (n, omega arith, f))
 
-module _ (es : List Event) (o : List ℕ) where
+module _ (delay : ℕ) (es : List Event) (clocks : InLineOrder delay es) (o : List ℕ) where
   incomplete-iff : (not (complete (length es) o) ≡ true) ↔ Incomplete es o
   unfolding complete
   incomplete-iff = (
@@ -42,31 +43,31 @@ module _ (es : List Event) (o : List ℕ) where
   )
 
   -- ---- 22
-  put-early-iff : (p : ℕ) → EarlyAt (before es) o p ↔ PutEarly es o p
+  put-early-iff : (p : ℕ) → EarlyAt (before delay es) o p ↔ PutEarly delay es o p
   put-early-iff p = (
-    λ w. record { later = w .later; after = w .after; within = w .within; chain = before-iff es _ _ .0 (w .precedes) },
-    λ w. record { later = w .later; after = w .after; within = w .within; precedes = before-iff es _ _ .1 (w .chain) },
+    λ w. record { later = w .later; after = w .after; within = w .within; chain = before-direct delay es clocks _ _ .0 (w .precedes) },
+    λ w. record { later = w .later; after = w .after; within = w .within; precedes = before-direct delay es clocks _ _ .1 (w .chain) },
   )
 
-  lowest-early-iff : (p : ℕ) → (firstEarly es o ≡ some p) ↔ Lowest (PutEarly es o) (length o) p
+  lowest-early-iff : (p : ℕ) → (firstEarly delay es o ≡ some p) ↔ Lowest (PutEarly delay es o) (length o) p
   lowest-early-iff p = (
-    λ e. let l = early-iff es o p .0 e in
+    λ e. let l = early-iff delay es o p .0 e in
         let a = l .early .after in
         let b = l .early .within in record {
           inside = omega arith;
           here = put-early-iff p .0 (l .early);
           none-lower = λ k h w. l .lowest k h (put-early-iff k .1 w);
         },
-    λ l. early-iff es o p .1 (record { early = put-early-iff p .1 (l .here); lowest = λ k h w. l .none-lower k h (put-early-iff k .0 w) }),
+    λ l. early-iff delay es o p .1 (record { early = put-early-iff p .1 (l .here); lowest = λ k h w. l .none-lower k h (put-early-iff k .0 w) }),
   )
 
-  pub order-tells : Tells (checkOrder es o) (orderCauses o es)
+  pub order-tells : Tells (checkOrder delay es o) (orderCauses delay o es)
   unfolding checkOrder orderCauses
   order-tells =
-      then-tells (refuseIf (not (complete (length es) o)) Refusal.OrderIncomplete) (λ _. refuseAt (firstEarly es o) Refusal.EventTooEarly) (incompleteCause o es ∷ []) (earlyPutCause o es ∷ [])
+      then-tells (refuseIf (not (complete (length es) o)) Refusal.OrderIncomplete) (λ _. refuseAt (firstEarly delay es o) Refusal.EventTooEarly) (incompleteCause o es ∷ []) (earlyPutCause delay o es ∷ [])
       (when-tells (not (complete (length es) o)) (Incomplete es o) incomplete-iff Refusal.OrderIncomplete)
-      (λ _ e. found-tells (firstEarly es o) (Lowest (PutEarly es o) (length o)) lowest-early-iff Refusal.EventTooEarly)
+      (λ _ e. found-tells (firstEarly delay es o) (Lowest (PutEarly delay es o) (length o)) lowest-early-iff Refusal.EventTooEarly)
 
 -- THE refusal of an order: the first of 21, 22 that applies
-pub order-refused-iff : (es : List Event) (o : List ℕ) (r : Refusal) → (checkOrder es o ≡ inl r) ↔ FirstOf (orderCauses o es) r
-order-refused-iff = order-tells
+pub order-refused-iff : (delay : ℕ) (es : List Event) → InLineOrder delay es → (o : List ℕ) (r : Refusal) → (checkOrder delay es o ≡ inl r) ↔ FirstOf (orderCauses delay o es) r
+order-refused-iff delay = order-tells delay

@@ -23,25 +23,25 @@ use Rattle.refusals_order.specs.Orders.{incompleteCause, earlyPutCause}
 abbrev pub shortCause : ℕ → (ℕ → Refusal) → List ℕ → Cause
 shortCause room refusal text = When (room < length text) (refusal (length text))
 
--- the list call: 1 to 8; 31
-unfoldable pub listCauses : List ℕ → ℕ → List Cause
-listCauses trace room = traceCauses trace ++ (Of (IsTrace trace) (λ es. shortCause room Refusal.ListShort (pairBytes (listOf es))) ∷ [])
+-- the list call: 1 to 8, 54, 55; 31
+unfoldable pub listCauses : ℕ → List ℕ → ℕ → List Cause
+listCauses delay trace room = traceCauses delay trace ++ (Of (IsTrace delay trace) (λ es. shortCause room Refusal.ListShort (pairBytes (listOf delay es))) ∷ [])
 
--- the page: 1 to 8; 51
-unfoldable pub pageCauses : List ℕ → ℕ → List Cause
-pageCauses trace room = traceCauses trace ++ (Of (IsTrace trace) (λ es. shortCause room Refusal.PageShort (pageText es)) ∷ [])
+-- the page: 1 to 8, 54, 55; 51
+unfoldable pub pageCauses : ℕ → List ℕ → ℕ → List Cause
+pageCauses delay trace room = traceCauses delay trace ++ (Of (IsTrace delay trace) (λ es. shortCause room Refusal.PageShort (pageText delay es)) ∷ [])
 
--- the share: 1 to 8
-abbrev pub shareCauses : List ℕ → List Cause
-shareCauses trace = traceCauses trace
+-- the share: 1 to 8, 54, 55
+abbrev pub shareCauses : ℕ → List ℕ → List Cause
+shareCauses delay trace = traceCauses delay trace
 
 -- the normaliser: 11 to 16; 32
 unfoldable pub normalCauses : List ℕ → ℕ → List Cause
 normalCauses tables room = tablesCauses tables ++ (Of (IsTables tables) (λ rs. shortCause room Refusal.TablesShort (normalText rs)) ∷ [])
 
 -- a cause that speaks of what both texts say
-abbrev pub OfBoth : List ℕ → List ℕ → (List Event → List Row → Cause) → Cause
-OfBoth trace tables c = Of (IsTrace trace) (λ es. Of (IsTables tables) (λ rs. c es rs))
+abbrev pub OfBoth : ℕ → List ℕ → List ℕ → (List Event → List Row → Cause) → Cause
+OfBoth delay trace tables c = Of (IsTrace delay trace) (λ es. Of (IsTables tables) (λ rs. c es rs))
 
 -- ---- replay
 -- 32: the normal text of the end tables
@@ -52,15 +52,15 @@ endShortCause o room es rs = shortCause room Refusal.TablesShort (tablesText (en
 abbrev pub answersShortCause : List ℕ → ℕ → List Event → List Row → Cause
 answersShortCause o room es rs = shortCause room Refusal.AnswersShort (answerLines es o (tablesOf rs))
 
--- 1 to 8; 11 to 16; 21, 22; 32; 33
-unfoldable pub replayCauses : List ℕ → List ℕ → List ℕ → ℕ → ℕ → List Cause
-replayCauses trace tables o room room' =
-    traceCauses trace
+-- 1 to 8, 54, 55; 11 to 16; 21, 22; 32; 33
+unfoldable pub replayCauses : ℕ → List ℕ → List ℕ → List ℕ → ℕ → ℕ → List Cause
+replayCauses delay trace tables o room room' =
+    traceCauses delay trace
     ++ (tablesCauses tables
-    ++ (Of (IsTrace trace) (incompleteCause o)
-    ∷ Of (IsTrace trace) (earlyPutCause o)
-    ∷ OfBoth trace tables (endShortCause o room)
-    ∷ OfBoth trace tables (answersShortCause o room')
+    ++ (Of (IsTrace delay trace) (incompleteCause o)
+    ∷ Of (IsTrace delay trace) (earlyPutCause delay o)
+    ∷ OfBoth delay trace tables (endShortCause o room)
+    ∷ OfBoth delay trace tables (answersShortCause o room')
     ∷ []))
 
 -- ---- many orders
@@ -72,14 +72,14 @@ abbrev pub unevenCause : List ℕ → List Event → Cause
 unevenCause os es = When (Uneven es os) Refusal.OrdersUneven
 
 -- 53: a byte an order
-abbrev pub trialsShortCause : List ℕ → ℕ → List Event → List Row → Cause
-trialsShortCause os room es rs = shortCause room Refusal.TrialsShort (orderBytes es (tablesOf rs) os)
+abbrev pub trialsShortCause : ℕ → List ℕ → ℕ → List Event → List Row → Cause
+trialsShortCause delay os room es rs = shortCause room Refusal.TrialsShort (orderBytes delay es (tablesOf rs) os)
 
--- 1 to 8; 11 to 16; 52; 53
-unfoldable pub trialsCauses : List ℕ → List ℕ → List ℕ → ℕ → List Cause
-trialsCauses trace tables os room =
-    traceCauses trace
+-- 1 to 8, 54, 55; 11 to 16; 52; 53
+unfoldable pub trialsCauses : ℕ → List ℕ → List ℕ → List ℕ → ℕ → List Cause
+trialsCauses delay trace tables os room =
+    traceCauses delay trace
     ++ (tablesCauses tables
-    ++ (Of (IsTrace trace) (unevenCause os)
-    ∷ OfBoth trace tables (trialsShortCause os room)
+    ++ (Of (IsTrace delay trace) (unevenCause os)
+    ∷ OfBoth delay trace tables (trialsShortCause delay os room)
     ∷ []))

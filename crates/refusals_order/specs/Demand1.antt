@@ -29,47 +29,47 @@ use Rattle.refusals_order.specs.Causes.{FirstOf, NoneOf}
 use Rattle.refusals_order.specs.Calls.{listCauses, pageCauses, shareCauses, normalCauses, replayCauses, trialsCauses}
 
 -- ---- the list call on a trace and a buffer
-module _ (trace old : List ℕ) where
+module _ (delay : ℕ) (trace old : List ℕ) where
   pub record ListRefused : Type 0 where
     pub refusal : Refusal
-    pub first : FirstOf (listCauses trace (length old)) refusal
-    pub returned : listAnswer (listRaces trace (length old)) ≡ ListAnswer.Refused refusal
-    pub unchanged : written (listOut (listRaces trace (length old))) old ≡ old
+    pub first : FirstOf (listCauses delay trace (length old)) refusal
+    pub returned : listAnswer (listRaces delay trace (length old)) ≡ ListAnswer.Refused refusal
+    pub unchanged : written (listOut (listRaces delay trace (length old))) old ≡ old
 
   pub record ListDone : Type 0 where
-    pub none : NoneOf (listCauses trace (length old))
+    pub none : NoneOf (listCauses delay trace (length old))
     pub events : List Event
-    pub accepted : IsTrace trace events
-    pub returned : listAnswer (listRaces trace (length old)) ≡ ListAnswer.Counts (countsOf events)
-    pub bytes : written (listOut (listRaces trace (length old))) old ≡ startingWith (pairBytes (listOf events)) old
+    pub accepted : IsTrace delay trace events
+    pub returned : listAnswer (listRaces delay trace (length old)) ≡ ListAnswer.Counts (countsOf delay events)
+    pub bytes : written (listOut (listRaces delay trace (length old))) old ≡ startingWith (pairBytes (listOf delay events)) old
 
 -- ---- the page call on a trace and a buffer
-module _ (trace old : List ℕ) where
+module _ (delay : ℕ) (trace old : List ℕ) where
   pub record PageRefused : Type 0 where
     pub refusal : Refusal
-    pub first : FirstOf (pageCauses trace (length old)) refusal
-    pub returned : pageAnswer (paged trace (length old)) ≡ PageAnswer.Refused refusal
-    pub unchanged : written (paged trace (length old)) old ≡ old
+    pub first : FirstOf (pageCauses delay trace (length old)) refusal
+    pub returned : pageAnswer (paged delay trace (length old)) ≡ PageAnswer.Refused refusal
+    pub unchanged : written (paged delay trace (length old)) old ≡ old
 
   pub record PageDone : Type 0 where
-    pub none : NoneOf (pageCauses trace (length old))
+    pub none : NoneOf (pageCauses delay trace (length old))
     pub events : List Event
-    pub accepted : IsTrace trace events
-    pub returned : pageAnswer (paged trace (length old)) ≡ PageAnswer.Length (length (pageText events))
-    pub bytes : written (paged trace (length old)) old ≡ startingWith (pageText events) old
+    pub accepted : IsTrace delay trace events
+    pub returned : pageAnswer (paged delay trace (length old)) ≡ PageAnswer.Length (length (pageText delay events))
+    pub bytes : written (paged delay trace (length old)) old ≡ startingWith (pageText delay events) old
 
 -- ---- the share call on a trace
-module _ (trace : List ℕ) where
+module _ (delay : ℕ) (trace : List ℕ) where
   pub record ShareRefused : Type 0 where
     pub refusal : Refusal
-    pub first : FirstOf (shareCauses trace) refusal
-    pub returned : shareAnswer (shared trace) ≡ ShareAnswer.Refused refusal
+    pub first : FirstOf (shareCauses delay trace) refusal
+    pub returned : shareAnswer (shared delay trace) ≡ ShareAnswer.Refused refusal
 
   pub record ShareDone : Type 0 where
-    pub none : NoneOf (shareCauses trace)
+    pub none : NoneOf (shareCauses delay trace)
     pub events : List Event
-    pub accepted : IsTrace trace events
-    pub returned : shareAnswer (shared trace) ≡ ShareAnswer.Share (shareOf (countsOf events))
+    pub accepted : IsTrace delay trace events
+    pub returned : shareAnswer (shared delay trace) ≡ ShareAnswer.Share (shareOf (countsOf delay events))
 
 -- ---- the normaliser on a table text and a buffer
 module _ (tables old : List ℕ) where
@@ -87,53 +87,53 @@ module _ (tables old : List ℕ) where
     pub bytes : written (normalised tables (length old)) old ≡ startingWith (normalText rows) old
 
 -- ---- replay on a trace, a table text, an order and two buffers
-module _ (trace tables o old old' : List ℕ) where
+module _ (delay : ℕ) (trace tables o old old' : List ℕ) where
   pub record ReplayRefused : Type 0 where
     pub refusal : Refusal
-    pub first : FirstOf (replayCauses trace tables o (length old) (length old')) refusal
-    pub returned : replayAnswer (replayed trace tables o (length old) (length old')) ≡ ReplayAnswer.Refused refusal
-    pub unchanged : written (tablesOut (replayed trace tables o (length old) (length old'))) old ≡ old
-    pub unchanged' : written (answersOut (replayed trace tables o (length old) (length old'))) old' ≡ old'
+    pub first : FirstOf (replayCauses delay trace tables o (length old) (length old')) refusal
+    pub returned : replayAnswer (replayed delay trace tables o (length old) (length old')) ≡ ReplayAnswer.Refused refusal
+    pub unchanged : written (tablesOut (replayed delay trace tables o (length old) (length old'))) old ≡ old
+    pub unchanged' : written (answersOut (replayed delay trace tables o (length old) (length old'))) old' ≡ old'
 
   pub record ReplayDone : Type 0 where
-    pub none : NoneOf (replayCauses trace tables o (length old) (length old'))
+    pub none : NoneOf (replayCauses delay trace tables o (length old) (length old'))
     pub events : List Event
     pub rows : List Row
-    pub accepted : IsTrace trace events
+    pub accepted : IsTrace delay trace events
     pub held : IsTables tables rows
     -- the normal text of the end tables, and the answer lines
     pub ends : List ℕ
     pub lines : List ℕ
     pub ends-are : ends ≡ tablesText (endTables (operationAt events) o (tablesOf rows))
     pub lines-are : lines ≡ answerLines events o (tablesOf rows)
-    pub returned : replayAnswer (replayed trace tables o (length old) (length old')) ≡ ReplayAnswer.Lengths (length ends) (length lines)
-    pub bytes : written (tablesOut (replayed trace tables o (length old) (length old'))) old ≡ startingWith ends old
-    pub bytes' : written (answersOut (replayed trace tables o (length old) (length old'))) old' ≡ startingWith lines old'
+    pub returned : replayAnswer (replayed delay trace tables o (length old) (length old')) ≡ ReplayAnswer.Lengths (length ends) (length lines)
+    pub bytes : written (tablesOut (replayed delay trace tables o (length old) (length old'))) old ≡ startingWith ends old
+    pub bytes' : written (answersOut (replayed delay trace tables o (length old) (length old'))) old' ≡ startingWith lines old'
 
 -- ---- many orders, end to end, on a trace, a table text and a buffer
-module _ (trace tables os old : List ℕ) where
+module _ (delay : ℕ) (trace tables os old : List ℕ) where
   pub record TrialsRefused : Type 0 where
     pub refusal : Refusal
-    pub first : FirstOf (trialsCauses trace tables os (length old)) refusal
-    pub returned : trialsAnswer (tried trace tables os (length old)) ≡ TrialsAnswer.Refused refusal
-    pub unchanged : written (tried trace tables os (length old)) old ≡ old
+    pub first : FirstOf (trialsCauses delay trace tables os (length old)) refusal
+    pub returned : trialsAnswer (tried delay trace tables os (length old)) ≡ TrialsAnswer.Refused refusal
+    pub unchanged : written (tried delay trace tables os (length old)) old ≡ old
 
   pub record TrialsDone : Type 0 where
-    pub none : NoneOf (trialsCauses trace tables os (length old))
+    pub none : NoneOf (trialsCauses delay trace tables os (length old))
     pub events : List Event
     pub rows : List Row
-    pub accepted : IsTrace trace events
+    pub accepted : IsTrace delay trace events
     pub held : IsTables tables rows
     -- a byte an order
     pub bytes : List ℕ
-    pub bytes-are : bytes ≡ orderBytes events (tablesOf rows) os
-    pub returned : trialsAnswer (tried trace tables os (length old)) ≡ TrialsAnswer.Orders (length bytes)
-    pub buffer : written (tried trace tables os (length old)) old ≡ startingWith bytes old
+    pub bytes-are : bytes ≡ orderBytes delay events (tablesOf rows) os
+    pub returned : trialsAnswer (tried delay trace tables os (length old)) ≡ TrialsAnswer.Orders (length bytes)
+    pub buffer : written (tried delay trace tables os (length old)) old ≡ startingWith bytes old
 
-pub record Demand1 : Type 0 where
-  pub list : (trace old : List ℕ) → ListRefused trace old ⊎ ListDone trace old
-  pub page : (trace old : List ℕ) → PageRefused trace old ⊎ PageDone trace old
-  pub share : (trace : List ℕ) → ShareRefused trace ⊎ ShareDone trace
+pub record Demand1 (delay : ℕ) : Type 0 where
+  pub list : (trace old : List ℕ) → ListRefused delay trace old ⊎ ListDone delay trace old
+  pub page : (trace old : List ℕ) → PageRefused delay trace old ⊎ PageDone delay trace old
+  pub share : (trace : List ℕ) → ShareRefused delay trace ⊎ ShareDone delay trace
   pub normalise : (tables old : List ℕ) → NormalRefused tables old ⊎ NormalDone tables old
-  pub replay : (trace tables o old old' : List ℕ) → ReplayRefused trace tables o old old' ⊎ ReplayDone trace tables o old old'
-  pub trials : (trace tables os old : List ℕ) → TrialsRefused trace tables os old ⊎ TrialsDone trace tables os old
+  pub replay : (trace tables o old old' : List ℕ) → ReplayRefused delay trace tables o old old' ⊎ ReplayDone delay trace tables o old old'
+  pub trials : (trace tables os old : List ℕ) → TrialsRefused delay trace tables os old ⊎ TrialsDone delay trace tables os old

@@ -6,7 +6,7 @@ use mathlib.Core.Path.{_≡_}
 use Prim.Native.Nat.{ℕ, _<_}
 use lib.ListN.{length, getD}
 use Rattle.basics.specs.Searches.{has}
-use Rattle.happens_before.specs.Causality.{step, Chain}
+use Rattle.happens_before.specs.Causality.{direct, Chain}
 use Rattle.refusals_order.specs.Types.{Refusal, Event}
 use Rattle.refusals_order.specs.Causes.{Cause, When, AtLowest}
 
@@ -15,18 +15,18 @@ abbrev pub Incomplete : List Event → List ℕ → Type 0
 Incomplete es o = (length o ≡ length es → ⊥) ⊎ ((i : ℕ) × (i < length es) × (has i o ≡ false))
 
 -- 22: position p holds an event that is put before one that happens before it, at a later position
-pub record PutEarly (es : List Event) (o : List ℕ) (p : ℕ) : Type 0 where
+pub record PutEarly (delay : ℕ) (es : List Event) (o : List ℕ) (p : ℕ) : Type 0 where
   pub later : ℕ
   pub after : p < later
   pub within : later < length o
-  pub chain : Chain (step es) (getD o later 0) (getD o p 0)
+  pub chain : Chain (direct delay es) (getD o later 0) (getD o p 0)
 
 abbrev pub incompleteCause : List ℕ → List Event → Cause
 incompleteCause o es = When (Incomplete es o) Refusal.OrderIncomplete
 
 -- the lowest such position
-abbrev pub earlyPutCause : List ℕ → List Event → Cause
-earlyPutCause o es = AtLowest (PutEarly es o) (length o) Refusal.EventTooEarly
+abbrev pub earlyPutCause : ℕ → List ℕ → List Event → Cause
+earlyPutCause delay o es = AtLowest (PutEarly delay es o) (length o) Refusal.EventTooEarly
 
-unfoldable pub orderCauses : List ℕ → List Event → List Cause
-orderCauses o es = incompleteCause o es ∷ earlyPutCause o es ∷ []
+unfoldable pub orderCauses : ℕ → List ℕ → List Event → List Cause
+orderCauses delay o es = incompleteCause o es ∷ earlyPutCause delay o es ∷ []

@@ -1,11 +1,12 @@
--- Document 01, "Refusal table", 1 to 8: when each refusal of a trace applies.
+-- Document 01, "Refusal table", 1 to 8, 54 and 55: when each refusal of a trace applies.
 use mathlib.Core.List.{List, [], _∷_, _++_}
 use mathlib.Core.Path.{_≡_}
-use Prim.Native.Nat.{ℕ, _≤_}
+use Prim.Native.Nat.{ℕ, _≤_, _<_}
 use lib.ListN.{length}
 use Rattle.text_lines.specs.Lines.{lines}
 use Rattle.trace_line.specs.EventLine.{printLine}
 use Rattle.trace_line.specs.Written.{EventWritten}
+use Rattle.trace_clocks.specs.Backward.{BackwardAt}
 use Rattle.trace_text.specs.Meaning.{TwiceAt, TakenEarlyAt, printFrom, AllWritten}
 use Rattle.refusals_order.specs.Types.{Refusal, Event}
 use Rattle.refusals_order.specs.Causes.{Cause, When, AtLowest, Of, lineByLine}
@@ -28,14 +29,19 @@ Misnumbered k l = (n : ℕ) × (e : Event) × IsLine l n e × (n ≡ k → ⊥)
 abbrev pub LineBit : List ℕ → Type 0
 LineBit l = (n : ℕ) × (e : Event) × IsLine l n e × BitInOperation (e .operation)
 
+-- 54: the `from` of its event is above its `to`
+abbrev pub LineReversed : List ℕ → Type 0
+LineReversed l = (n : ℕ) × (e : Event) × IsLine l n e × (e .head .to < e .head .from)
+
 abbrev pub lineCauses : ℕ → List ℕ → List Cause
 lineCauses k l =
     When (LineMalformed l) (Refusal.TraceMalformed k)
     ∷ When (Misnumbered k l) (Refusal.EventMisnumbered k)
     ∷ When (LineBit l) (Refusal.TraceAddressBit k)
+    ∷ When (LineReversed l) (Refusal.RangeReversed k)
     ∷ []
 
--- ---- the tokens
+-- ---- the tokens and the clocks
 -- the lines are those of the events, none of which is refused
 abbrev pub LinesOf : List ℕ → List Event → Type 0
 LinesOf s es = (lines s ≡ printFrom 0 es) × AllWritten es
@@ -48,11 +54,17 @@ twiceCause es = AtLowest (TwiceAt es) (length es) Refusal.TokenTwice
 abbrev pub earlyCause : List Event → Cause
 earlyCause es = AtLowest (TakenEarlyAt es) (length es) Refusal.TokenTooEarly
 
--- ---- the text: 1, 2, 3; then lines from the first, on each 4, 5, 6; then 7 over the trace, lowest line; then 8 likewise
-unfoldable pub traceCauses : List ℕ → List Cause
-traceCauses s =
+-- 55: the lowest line before which the time rule puts a later one
+abbrev pub backwardCause : ℕ → List Event → Cause
+backwardCause delay es = AtLowest (BackwardAt delay es) (length es) Refusal.TimeBackward
+
+-- ---- the text: 1, 2, 3; then lines from the first, on each 4, 5, 6, 54; then 7 over the trace, lowest line; then 8 likewise; then 55
+-- likewise
+unfoldable pub traceCauses : ℕ → List ℕ → List Cause
+traceCauses delay s =
     limitCauses s Refusal.TraceTooLong Refusal.TraceUnended Refusal.TraceTooManyLines
     ++ (lineByLine lineCauses 0 (lines s)
     ++ (Of (LinesOf s) twiceCause
     ∷ Of (LinesOf s) earlyCause
+    ∷ Of (LinesOf s) (backwardCause delay)
     ∷ []))

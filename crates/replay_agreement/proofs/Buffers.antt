@@ -26,18 +26,18 @@ rooms {G} x a b f g h = go (ltb a (length (x .tables))) (ltb b (length (x .answe
     go false true f g h = g refl
     go false false f g h = h refl
 
-pub long-enough : (s t o : List ℕ) (x : Replayed) (a b : ℕ) → replayed s t o a b ≡ fittingBoth x a b → LongEnough s t o a b → fittingBoth x a b ≡ inr x
-long-enough s t o x a b e l = rooms x a b (λ p. absurd (l .tablesFit _ (e ∙ p))) (λ p. absurd (l .answersFit _ (e ∙ p))) (λ p. p)
+pub long-enough : (delay : ℕ) (s t o : List ℕ) (x : Replayed) (a b : ℕ) → replayed delay s t o a b ≡ fittingBoth x a b → LongEnough delay s t o a b → fittingBoth x a b ≡ inr x
+long-enough delay s t o x a b e l = rooms x a b (λ p. absurd (l .tablesFit _ (e ∙ p))) (λ p. absurd (l .answersFit _ (e ∙ p))) (λ p. p)
 
 -- rooms of the lengths needed are long enough
-pub enough : (s t o : List ℕ) (x : Replayed) (a b : ℕ) → replayed s t o a b ≡ fittingBoth x a b → length (x .tables) ≤ a → length (x .answers) ≤ b → LongEnough s t o a b
-enough s t o x a b e h k =
-    let f : replayed s t o a b ≡ inr x = e ∙ rw (le-ltb a (length (x .tables)) h, le-ltb b (length (x .answers)) k) refl in
+pub enough : (delay : ℕ) (s t o : List ℕ) (x : Replayed) (a b : ℕ) → replayed delay s t o a b ≡ fittingBoth x a b → length (x .tables) ≤ a → length (x .answers) ≤ b → LongEnough delay s t o a b
+enough delay s t o x a b e h k =
+    let f : replayed delay s t o a b ≡ inr x = e ∙ rw (le-ltb a (length (x .tables)) h, le-ltb b (length (x .answers)) k) refl in
     record { tablesFit = λ n p. accepts (sym f ∙ p); answersFit = λ n p. accepts (sym f ∙ p) }
 
 -- what the call does where nothing is refused
-pub writes : (s t o : List ℕ) (x : Replayed) (old old' : List ℕ) → replayed s t o (length old) (length old') ≡ inr x → Writes (x .tables) (x .answers) s t o old old'
-writes s t o x old old' e = record {
+pub writes : (delay : ℕ) (s t o : List ℕ) (x : Replayed) (old old' : List ℕ) → replayed delay s t o (length old) (length old') ≡ inr x → Writes delay (x .tables) (x .answers) s t o old old'
+writes delay s t o x old old' e = record {
   returned = ap replayAnswer e;
   tablesWritten = ap (λ y. written (tablesOut y) old) e;
   answersWritten = ap (λ y. written (answersOut y) old') e;

@@ -8,6 +8,8 @@ use Prim.Native.Nat.{ℕ, _≤_}
 use lib.ListN.{length}
 use Rattle.order_meaning.specs.Tables.{endTables}
 use Rattle.rows.specs.Rows.{tablesOf}
+use Rattle.trace_events.specs.Clocks.{InLineOrder}
+use Rattle.trace_text.proofs.Accepted.{accepted-in-line-order}
 use Rattle.trace_text.specs.TraceText.{readTrace}
 use Rattle.tables_text.specs.TableText.{readTables}
 use Rattle.tables_text.proofs.Accepted.{accepted-table}
@@ -25,44 +27,47 @@ use Rattle.replay_agreement.proofs.RecordedOrder.{recorded-allowed}
 use Rattle.replay_agreement.proofs.SameTexts.{end-tables, end-answers, same-texts, hold-same-rows}
 use Rattle.replay_agreement.proofs.Buffers.{long-enough, enough, writes}
 
--- an allowed order is never refused by 21 or 22, nor is the recorded order, which is allowed
-pub allowed-accepted : (es : List Event) (o : List ℕ) → Allowed es o → checkOrder es o ≡ inr tt
-allowed-accepted es o a = order-accepted-iff es o .1 (a .order, a .keeps)
+module _ (delay : ℕ) (s : List ℕ) (es : List Event) (trace : readTrace delay s ≡ inr es) where
+  clocks : InLineOrder delay es
+  clocks = accepted-in-line-order delay s es trace
 
-pub recorded-is-allowed : (es : List Event) → Allowed es (recorded es)
-recorded-is-allowed = recorded-allowed
+  -- an allowed order is never refused by 21 or 22, nor is the recorded order, which is allowed
+  pub allowed-accepted : (o : List ℕ) → Allowed delay es o → checkOrder delay es o ≡ inr tt
+  allowed-accepted o a = order-accepted-iff delay es clocks o .1 (a .order, a .keeps)
 
-pub recorded-is-accepted : (es : List Event) → checkOrder es (recorded es) ≡ inr tt
-recorded-is-accepted = recorded-accepted
+  pub recorded-is-allowed : Allowed delay es (recorded es)
+  recorded-is-allowed = recorded-allowed delay es clocks
 
-module _ (s : List ℕ) (es : List Event) (trace : readTrace s ≡ inr es) where
+  pub recorded-is-accepted : checkOrder delay es (recorded es) ≡ inr tt
+  recorded-is-accepted = recorded-accepted delay es clocks
+
   module _ (t : List ℕ) (rs : List Row) (tables : readTables t ≡ inr rs) where
     -- buffers are long enough where they hold the texts
-    pub room-enough : (o : List ℕ) → checkOrder es o ≡ inr tt → (a b : ℕ)
-        → length (tablesText (endTables (operationAt es) o (tablesOf rs))) ≤ a → length (answerLines es o (tablesOf rs)) ≤ b → LongEnough s t o a b
-    room-enough o e a b = enough s t o (textsOf es o (tablesOf rs)) a b (only-rooms s t o es rs trace tables e a b)
+    pub room-enough : (o : List ℕ) → checkOrder delay es o ≡ inr tt → (a b : ℕ)
+        → length (tablesText (endTables (operationAt es) o (tablesOf rs))) ≤ a → length (answerLines es o (tablesOf rs)) ≤ b → LongEnough delay s t o a b
+    room-enough o e a b = enough delay s t o (textsOf es o (tablesOf rs)) a b (only-rooms delay s t o es rs trace tables e a b)
 
     -- replay follows document 01's rules: in every accepted order, given long enough buffers, it returns the lengths of the normal text
     -- of the end tables and of the answers' lines of that order, from the tables of the table text, and writes these two texts
-    pub replay-follows : (o : List ℕ) → checkOrder es o ≡ inr tt → (old old' : List ℕ) → LongEnough s t o (length old) (length old')
-        → Writes (tablesText (endTables (operationAt es) o (tablesOf rs))) (answerLines es o (tablesOf rs)) s t o old old'
+    pub replay-follows : (o : List ℕ) → checkOrder delay es o ≡ inr tt → (old old' : List ℕ) → LongEnough delay s t o (length old) (length old')
+        → Writes delay (tablesText (endTables (operationAt es) o (tablesOf rs))) (answerLines es o (tablesOf rs)) s t o old old'
     replay-follows o e old old' long =
         let x = textsOf es o (tablesOf rs) in
-        let rooms = only-rooms s t o es rs trace tables e (length old) (length old') in
-        writes s t o x old old' (rooms ∙ long-enough s t o x (length old) (length old') rooms long)
+        let rooms = only-rooms delay s t o es rs trace tables e (length old) (length old') in
+        writes delay s t o x old old' (rooms ∙ long-enough delay s t o x (length old) (length old') rooms long)
 
     -- in an allowed order the texts are those of the recorded order
-    allowed-follows : (o : List ℕ) → Allowed es o → (old old' : List ℕ) → LongEnough s t o (length old) (length old')
-        → Writes (tablesText (endTables (operationAt es) (recorded es) (tablesOf rs))) (answerLines es (recorded es) (tablesOf rs)) s t o old old'
+    allowed-follows : (o : List ℕ) → Allowed delay es o → (old old' : List ℕ) → LongEnough delay s t o (length old) (length old')
+        → Writes delay (tablesText (endTables (operationAt es) (recorded es) (tablesOf rs))) (answerLines es (recorded es) (tablesOf rs)) s t o old old'
     allowed-follows o a old old' long =
-        subst (λ x. Writes (x .tables) (x .answers) s t o old old') (same-texts es o a (tablesOf rs) (accepted-table t rs tables)) (replay-follows o (allowed-accepted es o a) old old' long)
+        subst (λ x. Writes delay (x .tables) (x .answers) s t o old old') (same-texts delay es clocks o a (tablesOf rs) (accepted-table t rs tables)) (replay-follows o (allowed-accepted o a) old old' long)
 
-  pub demand-3 : Demand3 s es
+  pub demand-3 : Demand3 delay s es
   demand-3 = record {
-    tables = end-tables es;
-    answered = end-answers es;
+    tables = end-tables delay es clocks;
+    answered = end-answers delay es clocks;
     bytes = λ t u rs qs e f same o p a b old old' new new' long long'. (
       allowed-follows t rs e o a old old' long,
-      subst (λ xs. Writes (tablesText (endTables (operationAt es) (recorded es) (tablesOf xs))) (answerLines es (recorded es) (tablesOf xs)) s u p new new') (sym (hold-same-rows t u rs qs e f same)) (allowed-follows u qs f p b new new' long'),
+      subst (λ xs. Writes delay (tablesText (endTables (operationAt es) (recorded es) (tablesOf xs))) (answerLines es (recorded es) (tablesOf xs)) s u p new new') (sym (hold-same-rows t u rs qs e f same)) (allowed-follows u qs f p b new new' long'),
     );
   }

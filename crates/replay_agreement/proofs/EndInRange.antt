@@ -20,7 +20,7 @@ use Rattle.tables_text.specs.TableText.{readTables}
 use Rattle.tables_text.proofs.Accepted.{accepted-sorted, accepted-range, accepted-length}
 use Rattle.tables_normal.specs.Inner.{RowsInRange}
 use Rattle.order_check.specs.Schedule.{checkOrder}
-use Rattle.order_check.proofs.Accepted.{order-accepted-iff}
+use Rattle.order_check.proofs.Accepted.{accepted-complete}
 use Rattle.order_rows.specs.Runs.{operationAt, givenOr}
 use Rattle.order_rows.specs.Inner.{runRows}
 use Rattle.order_rows.proofs.EndTables.{run-tables}
@@ -41,7 +41,7 @@ or-silent : (x : Option Answer) → Short x → AnswerShort (givenOr Answer.Sile
 or-silent none h = tt
 or-silent (some a) h = h
 
-module _ (s t : List ℕ) (es : List Event) (rs : List Row) (trace : readTrace s ≡ inr es) (tables : readTables t ≡ inr rs) (o : List ℕ) where
+module _ (delay : ℕ) (s t : List ℕ) (es : List Event) (rs : List Row) (trace : readTrace delay s ≡ inr es) (tables : readTables t ≡ inr rs) (o : List ℕ) where
   start-in-range : (w : ℕ) → TableInRange (tableOf w rs)
   start-in-range w = table-in-range w rs (λ r m. accepted-range t rs tables r m .entry)
 
@@ -50,17 +50,17 @@ module _ (s t : List ℕ) (es : List Event) (rs : List Row) (trace : readTrace s
       let here = row-entry r (runRows es o rs) m in record {
         switch = elim (decLt (r .switch) 16) [
           | yes l ↦ l
-          | no l ↦ absurd (List·Memᴰ·not-nil (subst (List·Memᴰ (r .entry)) (end-beyond s t es rs trace tables o (r .switch) (omega arith)) here))
+          | no l ↦ absurd (List·Memᴰ·not-nil (subst (List·Memᴰ (r .entry)) (end-beyond delay s t es rs trace tables o (r .switch) (omega arith)) here))
         ];
         entry = entry-in-range (endTables (operationAt es) o (tablesOf rs) (r .switch))
-            (end-in-range (operationAt es) (λ i. events-in-range s es trace i .effect) o (tablesOf rs) start-in-range (r .switch))
+            (end-in-range (operationAt es) (λ i. events-in-range delay s es trace i .effect) o (tablesOf rs) start-in-range (r .switch))
             (r .entry) (subst (List·Memᴰ (r .entry)) (run-tables es o rs (accepted-sorted t rs tables) (r .switch)) here);
       }
 
-  pub given-short : checkOrder es o ≡ inr tt → (i : ℕ) → AnswerShort (givenOr Answer.Silent (answers (operationAt es) o (tablesOf rs) i))
+  pub given-short : checkOrder delay es o ≡ inr tt → (i : ℕ) → AnswerShort (givenOr Answer.Silent (answers (operationAt es) o (tablesOf rs) i))
   given-short order i =
-      let few = trace-accepted-iff s es .0 trace .few in
-      let size = order-accepted-iff es o .0 order .0 .size in
+      let few = trace-accepted-iff delay s es .0 trace .few in
+      let size = accepted-complete delay es o order .size in
       let held = accepted-length t rs tables in
       or-silent (answers (operationAt es) o (tablesOf rs) i)
-      (answers-short (operationAt es) (λ k. events-in-range s es trace k .effect) o (tablesOf rs) start-in-range (λ w. omega (arith, table-length w rs)) i)
+      (answers-short (operationAt es) (λ k. events-in-range delay s es trace k .effect) o (tablesOf rs) start-in-range (λ w. omega (arith, table-length w rs)) i)

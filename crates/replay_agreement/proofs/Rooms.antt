@@ -89,28 +89,28 @@ text-most f h zero l = omega arith
 text-most f h (suc n) l = simp length-append (omega (arith, text-most f h n (omega arith), answer-most n (f n) (omega arith) (h n)))
 
 -- ---- of an accepted trace
-module _ (s : List ℕ) (es : List Event) (trace : readTrace s ≡ inr es) where
+module _ (delay : ℕ) (s : List ℕ) (es : List Event) (trace : readTrace delay s ≡ inr es) where
   few : length es ≤ 256
-  few = trace-accepted-iff s es .0 trace .few
+  few = trace-accepted-iff delay s es .0 trace .few
 
   -- its list
-  pub list-room : length (pairBytes (listOf es)) ≤ 65280
-  list-room = omega (arith, bytes-length (listOf es), count-most listed es few)
+  pub list-room : length (pairBytes (listOf delay es)) ≤ 65280
+  list-room = omega (arith, bytes-length (listOf delay es), count-most delay listed es few)
 
   -- and the replay of an accepted order from an accepted table text
-  module _ (t : List ℕ) (rs : List Row) (tables : readTables t ≡ inr rs) (o : List ℕ) (order : checkOrder es o ≡ inr tt) where
+  module _ (t : List ℕ) (rs : List Row) (tables : readTables t ≡ inr rs) (o : List ℕ) (order : checkOrder delay es o ≡ inr tt) where
     -- its end tables
     pub tables-room : length (tablesText (endTables (operationAt es) o (tablesOf rs))) ≤ 58880
     tables-room =
-        let held : length (runRows es o rs) ≤ 512 = rw (take-all (length o) o (omega arith)) at (never-over s t o es rs trace tables order .rows (length o)) in
-        omega (arith, ap length (end-text s t es rs trace tables o), normal-most (runRows es o rs) (end-rows-in-range s t es rs trace tables o))
+        let held : length (runRows es o rs) ≤ 512 = rw (take-all (length o) o (omega arith)) at (never-over delay s t o es rs trace tables order .rows (length o)) in
+        omega (arith, ap length (end-text delay s t es rs trace tables o), normal-most (runRows es o rs) (end-rows-in-range delay s t es rs trace tables o))
 
     -- its answers
     pub answers-room : length (answerLines es o (tablesOf rs)) ≤ 7168
     unfolding answerLines
     answers-room =
-        omega (arith, few, text-most (λ i. givenOr Answer.Silent (answers (operationAt es) o (tablesOf rs) i)) (given-short s t es rs trace tables o order) (length es) few)
+        omega (arith, few, text-most (λ i. givenOr Answer.Silent (answers (operationAt es) o (tablesOf rs) i)) (given-short delay s t es rs trace tables o order) (length es) few)
 
     -- so neither 32 nor 33 applies
-    pub never-short : (a b : ℕ) → 58880 ≤ a → 7168 ≤ b → LongEnough s t o a b
-    never-short a b h k = room-enough s es trace t rs tables o order a b (omega (arith, tables-room)) (omega (arith, answers-room))
+    pub never-short : (a b : ℕ) → 58880 ≤ a → 7168 ≤ b → LongEnough delay s t o a b
+    never-short a b h k = room-enough delay s es trace t rs tables o order a b (omega (arith, tables-room)) (omega (arith, answers-room))

@@ -12,7 +12,8 @@ use Rattle.flow_table.specs.Switches.{Tables, InOrder}
 use Rattle.list_verdicts.specs.Kinds.{listed, isKind}
 use Rattle.order_agreement.proofs.WholeOrder.{same-tables, same-answers}
 use Rattle.happens_before.specs.Causality.{before}
-use Rattle.happens_before.proofs.Chains.{before-iff}
+use Rattle.trace_events.specs.Clocks.{InLineOrder}
+use Rattle.happens_before.proofs.Direct.{before-direct}
 use Rattle.list_pairs.proofs.Theorems.{list-members}
 use Rattle.tables_text.specs.TableText.{readTables, HoldSame}
 use Rattle.tables_text.proofs.Accepted.{accepted-range}
@@ -33,20 +34,20 @@ same-told es o q start f g = λ i. record {
   answers = answersText (λ k. givenOr Answer.Silent (g k i)) (length es);
 }
 
-module _ (es : List Event) (o : List ℕ) (allowed : Allowed es o) where
-  keeps-before : (i j : ℕ) → i < j → j < length es → before es i j ≡ true → stands i j o ≡ true
-  keeps-before i j l m e = allowed .keeps i j (before-iff es i j .0 e)
+module _ (delay : ℕ) (es : List Event) (clocks : InLineOrder delay es) (o : List ℕ) (allowed : Allowed delay es o) where
+  keeps-before : (i j : ℕ) → i < j → j < length es → before delay es i j ≡ true → stands i j o ≡ true
+  keeps-before i j l m e = allowed .keeps i j (before-direct delay es clocks i j .0 e)
 
-  has-listed : (i j : ℕ) → i < j → j < length es → isKind listed (operationAt es i) (operationAt es j) (before es i j) ≡ true → stands i j o ≡ true
-  has-listed i j l m e = allowed .listed (record { lower = i; higher = j }) (list-members es i j .1 (l, m, e))
+  has-listed : (i j : ℕ) → i < j → j < length es → isKind listed (operationAt es i) (operationAt es j) (before delay es i j) ≡ true → stands i j o ≡ true
+  has-listed i j l m e = allowed .listed (record { lower = i; higher = j }) (list-members delay es i j .1 (l, m, e))
 
   -- from all starting tables, every switch ends with the table of the recorded order
   pub end-tables : (start : Tables) → InOrder start → (w : ℕ) → endTables (operationAt es) o start w ≡ endTables (operationAt es) (recorded es) start w
-  end-tables = same-tables (operationAt es) (length es) (before es) o (allowed .order) keeps-before has-listed
+  end-tables = same-tables (operationAt es) (length es) (before delay es) o (allowed .order) keeps-before has-listed
 
   -- and every event has its answer of the recorded order
   pub end-answers : (start : Tables) → InOrder start → (i : ℕ) → answers (operationAt es) o start i ≡ answers (operationAt es) (recorded es) start i
-  end-answers = same-answers (operationAt es) (length es) (before es) o (allowed .order) keeps-before has-listed
+  end-answers = same-answers (operationAt es) (length es) (before delay es) o (allowed .order) keeps-before has-listed
 
   -- both texts are those of the recorded order
   pub same-texts : (start : Tables) → InOrder start → textsOf es o start ≡ textsOf es (recorded es) start

@@ -20,7 +20,7 @@ use Rattle.tables_text.proofs.Accepted.{accepted-sorted}
 use Rattle.tables_normal.specs.Normal.{tablesText}
 use Rattle.tables_normal.proofs.Theorems.{normal-injective}
 use Rattle.order_check.specs.Schedule.{checkOrder}
-use Rattle.order_check.proofs.Accepted.{order-accepted-iff}
+use Rattle.order_check.proofs.Accepted.{accepted-complete}
 use Rattle.order_rows.specs.Runs.{operationAt, givenOr}
 use Rattle.order_rows.specs.Inner.{runRows}
 use Rattle.order_rows.proofs.EndTables.{run-tables, run-answers}
@@ -44,7 +44,7 @@ answered ev (j ∷ o) ts i = go (eqb i j) (answered ev o (stepOf (ev j) ts) i)
     go true ih = refl
     go false ih = ih
 
-module _ (s t : List ℕ) (es : List Event) (rs : List Row) (trace : readTrace s ≡ inr es) (tables : readTables t ≡ inr rs) (o q : List ℕ) (order : checkOrder es o ≡ inr tt) (other : checkOrder es q ≡ inr tt) where
+module _ (delay : ℕ) (s t : List ℕ) (es : List Event) (rs : List Row) (trace : readTrace delay s ≡ inr es) (tables : readTables t ≡ inr rs) (o q : List ℕ) (order : checkOrder delay es o ≡ inr tt) (other : checkOrder delay es q ≡ inr tt) where
   sorted : SortedRows rs
   sorted = accepted-sorted t rs tables
 
@@ -53,8 +53,8 @@ module _ (s t : List ℕ) (es : List Event) (rs : List Row) (trace : readTrace s
       → (w : ℕ) → endTables (operationAt es) o (tablesOf rs) w ≡ endTables (operationAt es) q (tablesOf rs) w
   tables-tell e w =
       let rows = normal-injective (runRows es o rs) (runRows es q rs)
-      (end-rows-in-range s t es rs trace tables o) (end-rows-in-range s t es rs trace tables q)
-      (end-text s t es rs trace tables o ∙ e ∙ sym (end-text s t es rs trace tables q)) in
+      (end-rows-in-range delay s t es rs trace tables o) (end-rows-in-range delay s t es rs trace tables q)
+      (end-text delay s t es rs trace tables o ∙ e ∙ sym (end-text delay s t es rs trace tables q)) in
       sym (run-tables es o rs sorted w) ∙ ap (tableOf w) rows ∙ run-tables es q rs sorted w
 
   -- ---- the answers
@@ -62,10 +62,10 @@ module _ (s t : List ℕ) (es : List Event) (rs : List Row) (trace : readTrace s
   given p i = givenOr Answer.Silent (answers (operationAt es) p (tablesOf rs) i)
 
   first : IsOrderOf (length es) o
-  first = order-accepted-iff es o .0 order .0
+  first = accepted-complete delay es o order
 
   second : IsOrderOf (length es) q
-  second = order-accepted-iff es q .0 other .0
+  second = accepted-complete delay es q other
 
   -- which events have a line, in every order
   silent : {p : List ℕ} → IsOrderOf (length es) p → (i : ℕ) → isSilent (given p i) ≡ not (hasAnswer (operationAt es i))
@@ -79,7 +79,7 @@ module _ (s t : List ℕ) (es : List Event) (rs : List Row) (trace : readTrace s
       same : cond (has i o) (some (given o i)) none ≡ cond (has i q) (some (given q i)) none
       same = elim (decLt i (length es)) [
         | yes l ↦ rw (first .full i l, second .full i l) (ap some (text-tells (given o) (given q) (λ k. silent first k ∙ sym (silent second k))
-            (given-short s t es rs trace tables o order) (given-short s t es rs trace tables q other) (length es) e i l))
+            (given-short delay s t es rs trace tables o order) (given-short delay s t es rs trace tables q other) (length es) e i l))
         | no l ↦ rw (absent first i l, absent second i l) refl
       ]
 

@@ -10,11 +10,11 @@ use Rattle.order_check.specs.Schedule.{KeepsOrder}
 use Rattle.replay_agreement.specs.Types.{Event}
 
 -- it has every pair of the list in recorded order: the lower event stands first
-abbrev pub HasListed : List Event → List ℕ → Type 0
-HasListed es o = (p : Pair) → List·Memᴰ p (listOf es) → stands (p .lower) (p .higher) o ≡ true
+abbrev pub HasListed : ℕ → List Event → List ℕ → Type 0
+HasListed delay es o = (p : Pair) → List·Memᴰ p (listOf delay es) → stands (p .lower) (p .higher) o ≡ true
 
 -- an order of the events, each once, that keeps happens-before and has every listed pair in recorded order
-pub record Allowed (es : List Event) (o : List ℕ) : Type 0 where
+pub record Allowed (delay : ℕ) (es : List Event) (o : List ℕ) : Type 0 where
   pub order : IsOrderOf (length es) o
-  pub keeps : KeepsOrder es o
-  pub listed : HasListed es o
+  pub keeps : KeepsOrder delay es o
+  pub listed : HasListed delay es o

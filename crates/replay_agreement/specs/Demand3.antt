@@ -16,18 +16,18 @@ use Rattle.replay_agreement.specs.Types.{Event, Row}
 use Rattle.replay_agreement.specs.Allowed.{Allowed}
 use Rattle.replay_agreement.specs.Buffers.{LongEnough, Writes}
 
-pub record Demand3 (s : List ℕ) (es : List Event) : Type 0 where
+pub record Demand3 (delay : ℕ) (s : List ℕ) (es : List Event) : Type 0 where
   -- from all starting tables, every switch ends with the table with which it ends in the recorded order
-  pub tables : (o : List ℕ) → Allowed es o → (start : Tables) → InOrder start
+  pub tables : (o : List ℕ) → Allowed delay es o → (start : Tables) → InOrder start
       → (w : ℕ) → endTables (operationAt es) o start w ≡ endTables (operationAt es) (recorded es) start w
   -- and every event has the answer that it has in the recorded order
-  pub answered : (o : List ℕ) → Allowed es o → (start : Tables) → InOrder start
+  pub answered : (o : List ℕ) → Allowed delay es o → (start : Tables) → InOrder start
       → (i : ℕ) → answers (operationAt es) o start i ≡ answers (operationAt es) (recorded es) start i
   -- any two replays in such orders, from accepted table texts that hold the same entries on the same switches, given long enough
   -- buffers, return equal lengths and write the same two texts: those of the recorded order from the tables of the table text
   pub bytes : (t u : List ℕ) (rs qs : List Row) → readTables t ≡ inr rs → readTables u ≡ inr qs → HoldSame t u
-      → (o p : List ℕ) → Allowed es o → Allowed es p
-      → (old old' new new' : List ℕ) → LongEnough s t o (length old) (length old') → LongEnough s u p (length new) (length new')
+      → (o p : List ℕ) → Allowed delay es o → Allowed delay es p
+      → (old old' new new' : List ℕ) → LongEnough delay s t o (length old) (length old') → LongEnough delay s u p (length new) (length new')
       → let ends = tablesText (endTables (operationAt es) (recorded es) (tablesOf rs)) in
       let lines = answerLines es (recorded es) (tablesOf rs) in
-      Writes ends lines s t o old old' × Writes ends lines s u p new new'
+      Writes delay ends lines s t o old old' × Writes delay ends lines s u p new new'

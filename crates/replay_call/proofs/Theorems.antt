@@ -14,7 +14,7 @@ use Rattle.trace_text.proofs.Accepted.{trace-accepted-iff}
 use Rattle.tables_text.specs.TableText.{readTables}
 use Rattle.tables_text.proofs.Accepted.{accepted-length, accepted-held}
 use Rattle.order_check.specs.Schedule.{checkOrder}
-use Rattle.order_check.proofs.Accepted.{order-accepted-iff}
+use Rattle.order_check.proofs.Accepted.{accepted-complete}
 use Rattle.order_rows.specs.Runs.{operationAt}
 use Rattle.order_rows.proofs.EndTables.{run-length}
 use Rattle.replay_texts.specs.Inner.{fittingBoth}
@@ -29,11 +29,11 @@ few-never-over t rs tables es o short = record {
   rows = λ k. omega (arith, run-length es (take k o) rs, accepted-length t rs tables, length-take k o);
 }
 
-module _ (s t o : List ℕ) (es : List Event) (rs : List Row) (trace : readTrace s ≡ inr es) (tables : readTables t ≡ inr rs) (order : checkOrder es o ≡ inr tt) where
+module _ (delay : ℕ) (s t o : List ℕ) (es : List Event) (rs : List Row) (trace : readTrace delay s ≡ inr es) (tables : readTables t ≡ inr rs) (order : checkOrder delay es o ≡ inr tt) where
   pub never-over : NeverOver es o rs
-  never-over = few-never-over t rs tables es o (omega (arith, trace-accepted-iff s es .0 trace .few, order-accepted-iff es o .0 order .0 .size))
+  never-over = few-never-over t rs tables es o (omega (arith, trace-accepted-iff delay s es .0 trace .few, accepted-complete delay es o order .size))
 
   -- 32, 33, or both texts
-  pub only-rooms : (a b : ℕ) → replayed s t o a b ≡ fittingBoth (textsOf es o (tablesOf rs)) a b
+  pub only-rooms : (a b : ℕ) → replayed delay s t o a b ≡ fittingBoth (textsOf es o (tablesOf rs)) a b
   unfolding replayed
   only-rooms a b = rw (trace, tables, order) refl

@@ -25,12 +25,12 @@ abbrev pub textsOf : List Event → List ℕ → Tables → Replayed
 textsOf es o start = record { tables = tablesText (endTables (operationAt es) o start); answers = answerLines es o start }
 
 -- what replay makes of a trace's text, a table text, an order and the lengths of its two buffers, a line a check:
--- 1 to 8; 11 to 16; 21, 22; 32; 33
-unfoldable pub replayed : List ℕ → List ℕ → List ℕ → ℕ → ℕ → Checked Replayed
-replayed trace tables o room room' =
-    readTrace trace ▹ λ es.
+-- 1 to 8, 54, 55; 11 to 16; 21, 22; 32; 33
+unfoldable pub replayed : ℕ → List ℕ → List ℕ → List ℕ → ℕ → ℕ → Checked Replayed
+replayed delay trace tables o room room' =
+    readTrace delay trace ▹ λ es.
     readTables tables ▹ λ rs.
-    checkOrder es o ▹ λ _.
+    checkOrder delay es o ▹ λ _.
     refuseShort room (textsOf es o (tablesOf rs) .tables) Refusal.TablesShort ▹ λ _.
     refuseShort room' (textsOf es o (tablesOf rs) .answers) Refusal.AnswersShort ▹ λ _.
     inr (textsOf es o (tablesOf rs))

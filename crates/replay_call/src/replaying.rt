@@ -40,13 +40,14 @@ fn replay_order(
     t: Trace,
     start: Rows,
     order: &[u8],
+    delay: u32,
     out: &mut [u8],
     answered: &mut [u8],
 ) -> ReplayAnswer
     requires { ⌜ (t .len ≤ 256) × (start .len ≤ 256) × SortedRows (rowsOf start) ⌝ }
-    ensures { λ r. ⌜ Leaves (orderedFrom (eventsOf t) (rowsOf start) (now (order .entry)) (length (now (out .entry))) (length (now (answered .entry)))) r (now (out .entry)) (now (out .exit)) (now (answered .entry)) (now (answered .exit)) ⌝ }
+    ensures { λ r. ⌜ Leaves (orderedFrom delay (eventsOf t) (rowsOf start) (now (order .entry)) (length (now (out .entry))) (length (now (answered .entry)))) r (now (out .entry)) (now (out .exit)) (now (answered .entry)) (now (answered .exit)) ⌝ }
 {
-    let earlier = happens_before::happens_before(t);
+    let earlier = happens_before::happens_before(t, delay);
     let outcome = check_order(t.len, &earlier, order);
     match outcome {
         Outcome::Refused(r) => ReplayAnswer::Refused(r),
@@ -54,27 +55,28 @@ fn replay_order(
     }
 }
 
-// A trace's events in the given order, from the tables of a text: the normalised end tables and the answers, each from its buffer's
+// A trace's events in the given order, under a delay, from the tables of a text: the normalised end tables and the answers, each from its buffer's
 // start, and both lengths. The bytes past them, or all after a refusal, stay as they were.
 pub fn replay(
     trace: &[u8],
     tables: &[u8],
     order: &[u8],
+    delay: u32,
     tables_out: &mut [u8],
     answers_out: &mut [u8],
 ) -> ReplayAnswer
-    ensures { λ r. ⌜ r ≡ replayAnswer (replayed (now (trace .entry)) (now (tables .entry)) (now (order .entry)) (length (now («tables_out» .entry))) (length (now («answers_out» .entry)))) ⌝ }
-    ensures { λ _. ⌜ now («tables_out» .exit) ≡ written (tablesOut (replayed (now (trace .entry)) (now (tables .entry)) (now (order .entry)) (length (now («tables_out» .entry))) (length (now («answers_out» .entry))))) (now («tables_out» .entry)) ⌝ }
-    ensures { λ _. ⌜ now («answers_out» .exit) ≡ written (answersOut (replayed (now (trace .entry)) (now (tables .entry)) (now (order .entry)) (length (now («tables_out» .entry))) (length (now («answers_out» .entry))))) (now («answers_out» .entry)) ⌝ }
+    ensures { λ r. ⌜ r ≡ replayAnswer (replayed delay (now (trace .entry)) (now (tables .entry)) (now (order .entry)) (length (now («tables_out» .entry))) (length (now («answers_out» .entry)))) ⌝ }
+    ensures { λ _. ⌜ now («tables_out» .exit) ≡ written (tablesOut (replayed delay (now (trace .entry)) (now (tables .entry)) (now (order .entry)) (length (now («tables_out» .entry))) (length (now («answers_out» .entry))))) (now («tables_out» .entry)) ⌝ }
+    ensures { λ _. ⌜ now («answers_out» .exit) ≡ written (answersOut (replayed delay (now (trace .entry)) (now (tables .entry)) (now (order .entry)) (length (now («tables_out» .entry))) (length (now («answers_out» .entry))))) (now («answers_out» .entry)) ⌝ }
 {
-    let read = read_both(trace, tables);
+    let read = read_both(trace, tables, delay);
     let outcome = read.outcome;
     match outcome {
         Outcome::Refused(r) => ReplayAnswer::Refused(r),
         Outcome::Accepted => {
             let events = read.trace;
             let start = read.rows;
-            replay_order(events, start, order, tables_out, answers_out)
+            replay_order(events, start, order, delay, tables_out, answers_out)
         }
     }
 }

@@ -1,7 +1,9 @@
-// replay_orders TRACE TABLES ORDERS: tries orders of the events of a trace, each from the tables of a second file; a third holds the
-// orders end to end, a byte for each event. Prints a line for each order, or what is refused.
+// replay_orders TRACE TABLES ORDERS [DELAY]: tries orders of the events of a trace, each from the tables of a second file; a third
+// holds the orders end to end, a byte for each event. DELAY is in milliseconds; left out, it is the usual one. Prints a line for each
+// order, or what is refused.
 use call_answers::TrialsAnswer;
 use libc::STDERR_FILENO;
+use program_delay::Delay;
 use program_input::read_arg;
 ghost use mathlib.Core.Path.{_≡_};
 ghost use Prim.Native.Nat.{_+_, _≤_, _<_};
@@ -52,9 +54,9 @@ fn print_results(results: &[u8])
     }
 }
 
-fn print_tried<'a>(trace: &'a [u8], tables: &'a [u8], orders: &[u8]) {
+fn print_tried<'a>(trace: &'a [u8], tables: &'a [u8], orders: &[u8], delay: u32) {
     let mut results = result_room();
-    let a = trials_call::try_orders(trace, tables, orders, &mut results);
+    let a = trials_call::try_orders(trace, tables, orders, delay, &mut results);
     match a {
         TrialsAnswer::Orders(n) => {
             print_results(text_lines::front(&results, n));
@@ -66,7 +68,7 @@ fn print_tried<'a>(trace: &'a [u8], tables: &'a [u8], orders: &[u8]) {
 }
 
 // With the orders of the third file.
-fn try_file<'a>(trace: &'a [u8], tables: &'a [u8]) {
+fn try_file<'a>(trace: &'a [u8], tables: &'a [u8], delay: u32) {
     let mut buf = order_room();
     let orders = read_arg(3, &mut buf);
     if !orders.ok {
@@ -77,14 +79,21 @@ fn try_file<'a>(trace: &'a [u8], tables: &'a [u8]) {
         io::write_all(STDERR_FILENO, b"orders over 1048576 bytes\n");
         return;
     }
-    print_tried(trace, tables, &buf[..n]);
+    print_tried(trace, tables, &buf[..n], delay);
 }
 
 fn main() {
-    if os::arg_count() != 4 {
-        io::write_all(STDERR_FILENO, b"usage: replay_orders TRACE TABLES ORDERS\n");
+    let arguments = os::arg_count();
+    if (arguments < 4) | (5 < arguments) {
+        io::write_all(
+            STDERR_FILENO,
+            b"usage: replay_orders TRACE TABLES ORDERS [DELAY]\n",
+        );
         return;
     }
+    let Delay::Given(delay) = program_delay::delay_arg(4) else {
+        return;
+    };
     let mut trace = io::large_buffer();
     let mut tables = io::large_buffer();
     let first = read_arg(1, &mut trace);
@@ -97,5 +106,5 @@ fn main() {
     }
     let n = first.len;
     let m = second.len;
-    try_file(&trace[..n], &tables[..m]);
+    try_file(&trace[..n], &tables[..m], delay);
 }

@@ -1,8 +1,9 @@
 // Replays the traces of its data files in the recorded order, into buffers that are a byte too short, and in the orders of another
 // file, a line for each. What must come out is in the file `stdout`: `ops` has each operation and its answers, each on a switch of
 // its own; `small` all 120 orders of five events, and orders that are none; `pout` all 24 orders of a rule, a barrier and two
-// packets; `full` 256 events on 256 entries.
+// packets; `clock` all 24 orders of four events that clocks order in part; `full` 256 events on 256 entries.
 use call_answers::ReplayAnswer;
+use program_delay::DELAY;
 use program_input::Input;
 
 // An answer: both texts, or the refusal.
@@ -27,7 +28,7 @@ fn print_answer<'a>(
 fn replay_order<'a>(trace: &'a [u8], tables: &'a [u8], order: &[u8]) {
     let mut ends = io::large_buffer();
     let mut answers = [0u8; 8192];
-    let a = replay_call::replay(trace, tables, order, &mut ends, &mut answers);
+    let a = replay_call::replay(trace, tables, order, DELAY, &mut ends, &mut answers);
     print_answer(trace, tables, a, &ends, &answers);
 }
 
@@ -43,7 +44,7 @@ fn replay_within<'a>(
     ends: &mut [u8],
     answers: &mut [u8],
 ) {
-    let a = replay_call::replay(trace, tables, order, ends, answers);
+    let a = replay_call::replay(trace, tables, order, DELAY, ends, answers);
     print_answer(trace, tables, a, ends, answers);
     if 0 < ends.len() {
         program_output::field(b"first=", wide(ends[0]));
@@ -66,7 +67,7 @@ fn replay_short<'a>(trace: &'a [u8], tables: &'a [u8], order: &[u8], n: usize, m
 fn replay_shorter<'a>(trace: &'a [u8], tables: &'a [u8], order: &[u8]) {
     let mut ends = io::large_buffer();
     let mut answers = [0u8; 8192];
-    let a = replay_call::replay(trace, tables, order, &mut ends, &mut answers);
+    let a = replay_call::replay(trace, tables, order, DELAY, &mut ends, &mut answers);
     match a {
         ReplayAnswer::Lengths(n, m) => {
             if 0 < n {
@@ -129,5 +130,6 @@ fn main() {
     replay_files(b"ops", b"ops_trace", b"ops_tables", b"ops_orders");
     replay_files(b"small", b"small_trace", b"small_tables", b"small_orders");
     replay_files(b"pout", b"pout_trace", b"pout_tables", b"pout_orders");
+    replay_files(b"clock", b"clock_trace", b"clock_tables", b"clock_orders");
     replay_files(b"full", b"full_trace", b"full_tables", b"full_orders");
 }

@@ -13,15 +13,15 @@ use Rattle.share.specs.Share.{shareOf}
 use Rattle.share_call.specs.Types.{Event, Share, Refusal, ShareAnswer, Outcome, TraceRead}
 use Rattle.share_call.specs.Shared.{shared, shareAnswer}
 
-module _ (text : List ℕ) (read : TraceRead) (e : asTrace read ≡ readTrace text) where
+module _ (delay : ℕ) (text : List ℕ) (read : TraceRead) (e : asTrace read ≡ readTrace delay text) where
   abbrev next : List Event → Checked Share
-  next es = inr (shareOf (countsOf es))
+  next es = inr (shareOf (countsOf delay es))
 
-  pub call-refused : (r : Refusal) → read .outcome ≡ Outcome.Refused r → ShareAnswer.Refused r ≡ shareAnswer (shared text)
+  pub call-refused : (r : Refusal) → read .outcome ≡ Outcome.Refused r → ShareAnswer.Refused r ≡ shareAnswer (shared delay text)
   unfolding shared
   call-refused r f = ap shareAnswer (on-refused _ (eventsOf (read .trace)) next e f)
 
-  pub call-accepted : (x : Share) → read .outcome ≡ Outcome.Accepted → x ≡ shareOf (countsOf (eventsOf (read .trace)))
-      → ShareAnswer.Share x ≡ shareAnswer (shared text)
+  pub call-accepted : (x : Share) → read .outcome ≡ Outcome.Accepted → x ≡ shareOf (countsOf delay (eventsOf (read .trace)))
+      → ShareAnswer.Share x ≡ shareAnswer (shared delay text)
   unfolding shared
   call-accepted x f g = ap ShareAnswer.Share g ∙ ap shareAnswer (on-accepted _ (eventsOf (read .trace)) next e f)

@@ -14,14 +14,14 @@ use Rattle.share_report.specs.Report.{shareLine}
 use Rattle.share_report.proofs.Theorems.{share-told}
 use Rattle.share_meaning.specs.Types.{Event, Share}
 
-abbrev shareIn : List Event → Share
-shareIn es = shareOf (countsOf es)
+abbrev shareIn : (delay : ℕ) → List Event → Share
+shareIn delay es = shareOf (countsOf delay es)
 
 -- the numbers of an accepted trace's share are printed whole
-short : (s : List ℕ) (es : List Event) → readTrace s ≡ inr es → (shareIn es .quotient < 10 ^ 20) × (shareIn es .remainder < 10 ^ 20) × (shareIn es .divisor < 10 ^ 20)
-short s es h =
-    let (q, r, d) = share-small (countsOf es) (counts-small es (trace-accepted-iff s es .0 h .few) (countsOf es) refl) in
+short : (delay : ℕ) (s : List ℕ) (es : List Event) → readTrace delay s ≡ inr es → (shareIn delay es .quotient < 10 ^ 20) × (shareIn delay es .remainder < 10 ^ 20) × (shareIn delay es .divisor < 10 ^ 20)
+short delay s es h =
+    let (q, r, d) = share-small (countsOf delay es) (counts-small delay es (trace-accepted-iff delay s es .0 h .few) (countsOf delay es) refl) in
     (omega (arith, q), omega (arith, r), omega (arith, d))
 
-pub same-line-iff : (s t : List ℕ) (es fs : List Event) → readTrace s ≡ inr es → readTrace t ≡ inr fs → (shareLine (shareIn es) ≡ shareLine (shareIn fs)) ↔ (shareIn es ≡ shareIn fs)
-same-line-iff s t es fs h k = (share-told (shareIn es) (shareIn fs) (short s es h) (short t fs k), ap shareLine)
+pub same-line-iff : (d e : ℕ) (s t : List ℕ) (es fs : List Event) → readTrace d s ≡ inr es → readTrace e t ≡ inr fs → (shareLine (shareIn d es) ≡ shareLine (shareIn e fs)) ↔ (shareIn d es ≡ shareIn e fs)
+same-line-iff d e s t es fs h k = (share-told (shareIn d es) (shareIn e fs) (short d s es h) (short e t fs k), ap shareLine)

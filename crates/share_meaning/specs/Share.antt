@@ -13,19 +13,19 @@ use Rattle.share_call.specs.Shared.{shared, shareAnswer}
 use Rattle.share_meaning.specs.Types.{Event, Counts, ListAnswer, Share, ShareAnswer}
 
 -- two table events of one switch, neither of which happens before the other
-abbrev pub Unordered : List Event → ℕ → ℕ → Type 0
-Unordered es i j = OneTable es i j × (Ordered es i j → ⊥)
+abbrev pub Unordered : ℕ → List Event → ℕ → ℕ → Type 0
+Unordered delay es i j = OneTable es i j × (Ordered delay es i j → ⊥)
 
-pub record ShareExact (trace : List ℕ) (es : List Event) : Type 0 where
+pub record ShareExact (delay : ℕ) (trace : List ℕ) (es : List Event) : Type 0 where
   pub share : Share
-  pub returned : shareAnswer (shared trace) ≡ ShareAnswer.Share share
+  pub returned : shareAnswer (shared delay trace) ≡ ShareAnswer.Share share
   -- 1,000 times the commuting pairs are given back
-  pub product : share .quotient * share .divisor + share .remainder ≡ 1000 * count commuting es
+  pub product : share .quotient * share .divisor + share .remainder ≡ 1000 * count delay commuting es
   pub below : 0 < share .divisor → share .remainder < share .divisor
   -- the pairs that are not ordered
-  pub divisor : share .divisor ≡ count pairs es - count ordered es
+  pub divisor : share .divisor ≡ count delay pairs es - count delay ordered es
   -- 0 exactly if no pair is unordered, and then all are 0
-  pub none : (share .divisor ≡ 0) ↔ ((i j : ℕ) → Unordered es i j → ⊥)
+  pub none : (share .divisor ≡ 0) ↔ ((i j : ℕ) → Unordered delay es i j → ⊥)
   pub zeros : share .divisor ≡ 0 → (share .quotient ≡ 0) × (share .remainder ≡ 0)
   -- the counts are those that the list call returns, whatever its buffer
-  pub list : (room : ℕ) (c : Counts) → listAnswer (listRaces trace room) ≡ ListAnswer.Counts c → IsShare c share
+  pub list : (room : ℕ) (c : Counts) → listAnswer (listRaces delay trace room) ≡ ListAnswer.Counts c → IsShare c share

@@ -1,4 +1,5 @@
--- The test of direct precedence says yes exactly if document 01's words hold: a token passed on, or a barrier step. Assumes nothing.
+-- The test of a step to a later line says yes exactly if document 01's words hold: a token passed on, or a barrier step. Assumes
+-- nothing.
 use Prim.Native.Nat.{ℕ}
 use mathlib.Core.Path.{_≡_, refl, sym, ap, _∙_}
 use mathlib.Core.Logic.{_↔_, _⊎_, inl, inr, ⊎-elim}
@@ -10,7 +11,7 @@ use Rattle.basics.proofs.Booleans.{and-left, and-right, and-intro, or-cases}
 use Rattle.basics.proofs.Searches.{has-iff, shares-found, shares-at}
 use Rattle.trace_events.specs.Types.{Origin, TableOperation, Operation, Head, Event}
 use Rattle.trace_events.specs.Events.{tokensOf, isBarrier, isMessage, barrierOrders}
-use Rattle.trace_events.specs.Precedence.{barrierStep, tokenStep, precedes, Write, Among, BarrierJoins, TokenPasses, DirectlyPrecedes}
+use Rattle.trace_events.specs.Precedence.{barrierStep, tokenStep, lineStep, Write, Among, BarrierJoins, TokenPasses, LineSteps}
 
 -- ---- tokens
 pub token-iff : (a b : Head) → (tokenStep a b ≡ true) ↔ TokenPasses a b
@@ -94,10 +95,10 @@ module _ (o p : Operation) where
         and-intro (and-intro (and-intro (eq-eqb (switchOf o) (switchOf p) (f .0 ∙ sym (g .0))) (f .1)) (g .1)) (one-barrier (j .switch) (j .one-is-bar)),
   )
 
--- a directly precedes b
-pub precedes-iff : (a b : Event) → (precedes a b ≡ true) ↔ DirectlyPrecedes a b
-unfolding precedes
-precedes-iff a b = (
+-- a directly precedes b, of a later line, by a token or a barrier
+pub line-step-iff : (a b : Event) → (lineStep a b ≡ true) ↔ LineSteps a b
+unfolding lineStep
+line-step-iff a b = (
   λ e. or-cases (tokenStep (a .head) (b .head)) (barrierStep (a .operation) (b .operation)) e
       (λ f. inl (token-iff (a .head) (b .head) .0 f))
       (λ f. inr (barrier-iff (a .operation) (b .operation) .0 f)),

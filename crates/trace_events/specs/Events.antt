@@ -1,5 +1,5 @@
--- Document 01, "Trace text": the events of a trace, their tokens, and the kinds of operations that barriers tell apart.
-use mathlib.Core.Bool.{Bool, true, false}
+-- Document 01, "Trace text": the events of a trace, their tokens, and the kinds of operations that barriers and clocks tell apart.
+use mathlib.Core.Bool.{Bool, true, false, not}
 use mathlib.Core.List.{List, [], _∷_}
 use Prim.Native.Nat.{ℕ}
 use lib.ListN.{take, getD, replicate}
@@ -13,12 +13,12 @@ tokensOf s = take (s .count) (s .t0 ∷ s .t1 ∷ s .t2 ∷ s .t3 ∷ [])
 unfoldable pub eventsOf : Trace → List Event
 eventsOf t = take (t .len) (t .events)
 
--- no tokens, and what stands past the end: `oth` with none
+-- no tokens, and what stands past the end: `oth` with none, at 0
 abbrev pub noTokens : Tokens
 noTokens = record { t0 = 0; t1 = 0; t2 = 0; t3 = 0; count = 0 }
 
 abbrev pub noHead : Head
-noHead = record { ins = noTokens; outs = noTokens }
+noHead = record { ins = noTokens; outs = noTokens; from = 0; to = 0 }
 
 abbrev pub noEvent : Event
 noEvent = record { head = noHead; operation = Operation.Other }
@@ -57,3 +57,17 @@ barrierOrders Operation.Other = false
 barrierOrders (Operation.Barrier w) = true
 barrierOrders (Operation.Message w) = true
 barrierOrders (Operation.Table w o) = isMessage o
+
+-- handled by a switch: all but `oth`
+abbrev pub isHandled : Operation → Bool
+isHandled Operation.Other = false
+isHandled (Operation.Barrier w) = true
+isHandled (Operation.Message w) = true
+isHandled (Operation.Table w o) = true
+
+-- `pkt`: the table event that is no message
+abbrev pub isReceived : Operation → Bool
+isReceived Operation.Other = false
+isReceived (Operation.Barrier w) = false
+isReceived (Operation.Message w) = false
+isReceived (Operation.Table w o) = not (isMessage o)

@@ -1,4 +1,4 @@
--- Document 01, "Happens-before": when an event directly precedes a later one, as a test and in words.
+-- Document 01, "Happens-before": the token and the barrier step, from an event to one of a later line, as a test and in words.
 use mathlib.Core.Path.{_≡_}
 use mathlib.Core.Logic.{_⊎_}
 use mathlib.Core.Bool.{Bool, _&&_, _||_}
@@ -18,11 +18,11 @@ barrierStep a b = eqb (switchOf a) (switchOf b) && barrierOrders a && barrierOrd
 unfoldable pub tokenStep : Head → Head → Bool
 tokenStep a b = shares (tokensOf (a .outs)) (tokensOf (b .ins))
 
--- a, of an earlier line, directly precedes b
-unfoldable pub precedes : Event → Event → Bool
-precedes a b = tokenStep (a .head) (b .head) || barrierStep (a .operation) (b .operation)
+-- a, of an earlier line, directly precedes b by a token or a barrier
+unfoldable pub lineStep : Event → Event → Bool
+lineStep a b = tokenStep (a .head) (b .head) || barrierStep (a .operation) (b .operation)
 
--- ---- the same in words (proofs/Precedes.antt, `precedes-iff`)
+-- ---- the same in words (proofs/Precedes.antt, `line-step-iff`)
 -- a write: every table operation but a packet
 pub data Write : TableOperation → Type 0 where
   add : {e : Entry} → Write (TableOperation.Add e)
@@ -52,6 +52,6 @@ pub record TokenPasses (a b : Head) : Type 0 where
   pub in-out : List·Memᴰ token (tokensOf (a .outs))
   pub in-in : List·Memᴰ token (tokensOf (b .ins))
 
--- event a directly precedes the later line b
-abbrev pub DirectlyPrecedes : Event → Event → Type 0
-DirectlyPrecedes a b = TokenPasses (a .head) (b .head) ⊎ BarrierJoins (a .operation) (b .operation)
+-- event a directly precedes the later line b by a token or a barrier
+abbrev pub LineSteps : Event → Event → Type 0
+LineSteps a b = TokenPasses (a .head) (b .head) ⊎ BarrierJoins (a .operation) (b .operation)

@@ -1,10 +1,10 @@
-// Which operations a barrier of their switch orders.
+// Which operations a barrier of their switch orders, and which a switch handles.
 use flow_table::Operation;
 use flow_table::Origin;
 use flow_table::TableOperation;
 ghost use mathlib.Core.Path.{_≡_};
 ghost use Rattle.flow_table.specs.Switches.{switchOf};
-ghost use Rattle.trace_events.specs.Events.{isBarrier, isSentOut, isMessage, barrierOrders};
+ghost use Rattle.trace_events.specs.Events.{isBarrier, isSentOut, isMessage, barrierOrders, isHandled};
 
 // The switch of an operation; 0 of `oth`, which has none.
 pub fn switch_of(o: Operation) -> u8
@@ -62,5 +62,17 @@ pub fn barrier_orders(o: Operation) -> bool
         Operation::Barrier(_) => true,
         Operation::Message(_) => true,
         Operation::Table(_, t) => is_message(t),
+    }
+}
+
+// All but `oth`.
+pub fn is_handled(o: Operation) -> bool
+    ensures { λ r. ⌜ r ≡ isHandled o ⌝ }
+{
+    match o {
+        Operation::Other => false,
+        Operation::Barrier(_) => true,
+        Operation::Message(_) => true,
+        Operation::Table(_, _) => true,
     }
 }

@@ -1,4 +1,4 @@
-// The head of a line: the tokens that its event takes in and puts out.
+// The head of a line: the tokens that its event takes in and puts out, and the earliest and latest millisecond of the event.
 use crate::tokens::Tokens;
 ghost use mathlib.Core.Path.{_≡_};
 ghost use Rattle.trace_events.specs.Events.{noHead};
@@ -7,6 +7,8 @@ ghost use Rattle.trace_events.specs.Precedence.{tokenStep};
 pub struct Head {
     pub ins: Tokens,
     pub outs: Tokens,
+    pub from: u32,
+    pub to: u32,
 }
 
 impl Head {
@@ -17,6 +19,8 @@ impl Head {
         Head {
             ins: none,
             outs: none,
+            from: 0,
+            to: 0,
         }
     }
 

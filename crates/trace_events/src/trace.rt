@@ -1,4 +1,4 @@
-// A trace: its events in an array, and how many there are. The number stands first, and in `TraceRead` the trace, because of where copies
+// A trace: its events in an array, and how many there are. The array stands first, and in `TraceRead` the trace, because of where copies
 // of a trace then lie (docs/MEASUREMENTS.md, "Copies").
 use crate::event::Event;
 use crate::head::Head;
@@ -7,8 +7,8 @@ ghost use mathlib.Core.Path.{_≡_};
 ghost use Rattle.trace_events.specs.Events.{noTrace};
 
 pub struct Trace {
-    pub len: usize,
     pub events: [Event; 256],
+    pub len: usize,
 }
 
 impl Trace {

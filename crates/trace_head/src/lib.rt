@@ -1,5 +1,7 @@
-// The head of a line: `in` and `out`.
+// The head of a line: `in`, `out`, `from` and `to`.
 use refusals::Refusal;
+use text_numbers::Long;
+use text_numbers::long_at;
 use trace_events::Head;
 use trace_tokens::TokensRead;
 use trace_tokens::tokens_at;
@@ -14,7 +16,7 @@ pub enum HeadRead {
     Refused(Refusal),
 }
 
-// Where `in` or `out` has no value, the line is refused: as `malformed`, which has its number.
+// Where one of the four has no value, the line is refused: as `malformed`, which has its number.
 pub fn head_at(s: &[u8], at: usize, malformed: Refusal) -> HeadRead
     ensures { λ r. ⌜ asHead r ≡ refuseNone (readHead (now (s .entry)) at) malformed ⌝ }
 {
@@ -24,8 +26,19 @@ pub fn head_at(s: &[u8], at: usize, malformed: Refusal) -> HeadRead
     let TokensRead::Read { value: outs, next } = tokens_at(s, next, b" out=") else {
         return HeadRead::Refused(malformed);
     };
+    let Long::Read { value: from, next } = long_at(s, next, b" from=", 4294967295) else {
+        return HeadRead::Refused(malformed);
+    };
+    let Long::Read { value: to, next } = long_at(s, next, b" to=", 4294967295) else {
+        return HeadRead::Refused(malformed);
+    };
     HeadRead::Read {
-        value: Head { ins, outs },
+        value: Head {
+            ins,
+            outs,
+            from,
+            to,
+        },
         next,
     }
 }

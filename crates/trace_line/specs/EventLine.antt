@@ -6,7 +6,7 @@ use mathlib.Core.List.{List, _++_}
 use mathlib.Core.Logic.{_⊎_, inl, inr}
 use mathlib.Core.Option.{Option, none, some}
 use Prim.Native.Nat.{ℕ}
-use lib.Dec.{eqb}
+use lib.Dec.{eqb, leb}
 use lib.ListN.{length}
 use Rattle.basics.specs.Text.{bytes}
 use Rattle.text_numbers.specs.Reading.{Reader, andThen, mapped, keyed, both}
@@ -59,12 +59,18 @@ readNumberedEvent l = atEnd l (readNumbered l 0)
 abbrev pub clearEvent : Event → Bool
 clearEvent e = clearOperation (e .operation)
 
--- on line k: 4 where the line is not read, 5 where the number is not k, 6 where an address bit stands past its prefix
+-- the earliest millisecond is not above the latest
+abbrev pub rangeKept : Event → Bool
+rangeKept e = leb (e .head .from) (e .head .to)
+
+-- on line k: 4 where the line is not read, 5 where the number is not k, 6 where an address bit stands past its prefix, 54 where `from` is above `to`
 abbrev pub onLine : ℕ → Option (ℕ × Event) → Refusal ⊎ Event
 onLine k none = inl (Refusal.TraceMalformed k)
 onLine k (some r) =
     cond (eqb (r .0) k)
-    (cond (clearEvent (r .1)) (inr (r .1)) (inl (Refusal.TraceAddressBit k)))
+    (cond (clearEvent (r .1))
+    (cond (rangeKept (r .1)) (inr (r .1)) (inl (Refusal.RangeReversed k)))
+    (inl (Refusal.TraceAddressBit k)))
     (inl (Refusal.EventMisnumbered k))
 
 unfoldable pub readEvent : ℕ → List ℕ → Refusal ⊎ Event

@@ -22,7 +22,8 @@ pub enum EventRead {
     Refused(Refusal),
 }
 
-// The line of that number: malformed, misnumbered, an address bit past its prefix, in this order; else its event.
+// The line of that number: malformed, misnumbered, an address bit past its prefix, a range reversed, in this order; else its
+// event.
 pub fn event_line(s: &[u8], line: usize) -> EventRead
     ensures { λ r. ⌜ asEvent r ≡ readEvent line (now (s .entry)) ⌝ }
 {

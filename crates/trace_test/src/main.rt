@@ -1,10 +1,11 @@
 // Reads the trace texts of its data files: the number of events, or the refusal with the refused line. What must come out is in the
 // file `stdout`.
+use program_delay::DELAY;
 use refusals::Outcome;
 
 // The files 000 and on: accepted texts; then refusals 1, 2 and 3; then malformed lines, item by item; then 5, 6, 7, 8 and texts with
-// several faults.
-const CASES: u8 = 169;
+// several faults; from 169 on clocks.
+const CASES: u8 = 181;
 
 fn answer(text: &[u8], outcome: Outcome, events: usize) {
     match outcome {
@@ -19,7 +20,7 @@ fn answer(text: &[u8], outcome: Outcome, events: usize) {
 }
 
 fn read_text(text: &[u8]) {
-    let result = trace_text::read_trace(text);
+    let result = trace_text::read_trace(text, DELAY);
     let outcome = result.outcome;
     let events = result.trace;
     answer(text, outcome, events.len);

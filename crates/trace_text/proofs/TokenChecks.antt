@@ -15,6 +15,7 @@ use Rattle.basics.specs.Searches.{shares, orElse, lowest}
 use Rattle.basics.proofs.Searches.{any-same, any-none}
 use Rattle.basics.proofs.Booleans.{and-false-right}
 use Rattle.trace_events.proofs.TraceLaws.{event-at, length-events}
+use Rattle.refusals.proofs.Checks.{placed}
 use Rattle.refusals.specs.Checks.{_▹_, refuseAt, outcomeOf, firstOf}
 use Rattle.trace_text.specs.Types.{Refusal, Event, Tokens, Trace, Outcome}
 use Rattle.trace_text.specs.TraceText.{outsAt, putsOut, twice, takenEarly}
@@ -64,10 +65,6 @@ module _ (t : Trace) (all : List Tokens) (same : (k : ℕ) → k < t .len → ge
     early-test fits e = rw (event-at t j within, length-events t fits) (e ∙ puts-same _ _ j (outsAt (eventsOf t)) (t .len) (outs-same (t .len) (omega arith)))
 
 -- ---- the outcome of a search for the lowest line
-abbrev pub placed : (ℕ → Refusal) → Option ℕ → Outcome
-placed refusal none = Outcome.Accepted
-placed refusal (some j) = Outcome.Refused (refusal j)
-
 first-placed : (refusal : ℕ → Refusal) (x : Option ℕ) (b : Bool) (k : ℕ) → firstOf (placed refusal x) (cond b (Outcome.Refused (refusal k)) Outcome.Accepted) ≡ placed refusal (orElse x b k)
 first-placed refusal (some j) b k = refl
 first-placed refusal none true k = refl

@@ -7,6 +7,7 @@ use lib.ListN.{length}
 use Rattle.basics.specs.Searches.{lowest}
 use Rattle.refusals.specs.Checks.{Checked, _▹_, valueOr, refuseAt, outcomeOf}
 use Rattle.trace_events.specs.Events.{tokensOf, eventsOf}
+use Rattle.trace_clocks.specs.Backward.{checkClocks}
 use Rattle.trace_text.specs.Types.{Refusal, Event, Tokens, TraceRead}
 use Rattle.trace_text.specs.TraceText.{putsOut, twice, takenEarly}
 
@@ -22,6 +23,13 @@ checkTokens es =
     refuseAt (lowest (twice es) (length es)) Refusal.TokenTwice ▹ λ _.
     refuseAt (lowest (takenEarly es) (length es)) Refusal.TokenTooEarly ▹ λ _.
     inr es
+
+-- 7, 8, and then 55
+unfoldable pub checkEvents : ℕ → List Event → Checked (List Event)
+checkEvents delay es =
+    refuseAt (lowest (twice es) (length es)) Refusal.TokenTwice ▹ λ _.
+    refuseAt (lowest (takenEarly es) (length es)) Refusal.TokenTooEarly ▹ λ _.
+    checkClocks delay es
 
 -- what the code's answer says
 abbrev pub asTrace : TraceRead → Checked (List Event)

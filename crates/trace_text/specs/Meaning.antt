@@ -7,8 +7,9 @@ use Prim.Native.Nat.{ℕ, _+_, _≤_, _<_}
 use lib.ListN.{length}
 use Rattle.text_lines.specs.Lines.{lines, endsWithLf}
 use Rattle.basics.specs.Searches.{has}
-use Rattle.trace_line.specs.EventLine.{printLine, clearEvent}
+use Rattle.trace_line.specs.EventLine.{printLine, clearEvent, rangeKept}
 use Rattle.trace_line.specs.Written.{EventWritten}
+use Rattle.trace_clocks.specs.Backward.{BackwardAt}
 use Rattle.trace_text.specs.Types.{Event}
 use Rattle.trace_text.specs.TraceText.{insAt, outsAt}
 
@@ -34,13 +35,14 @@ abbrev pub printFrom : ℕ → List Event → List (List ℕ)
 printFrom k [] = []
 printFrom k (e ∷ es) = printLine k e ∷ printFrom (k + 1) es
 
--- each as a line can say it, with no address bit past its prefix
+-- each as a line can say it, with no address bit past its prefix and `from` not above `to`
 abbrev pub AllWritten : List Event → Type 0
 AllWritten [] = Unit {0}
-AllWritten (e ∷ es) = (EventWritten e × (clearEvent e ≡ true)) × AllWritten es
+AllWritten (e ∷ es) = (EventWritten e × (clearEvent e ≡ true) × (rangeKept e ≡ true)) × AllWritten es
 
--- what is accepted: a text within the limits whose lines are those of the events, with no token twice and none too early
-pub record IsTrace (s : List ℕ) (es : List Event) : Type 0 where
+-- what is accepted: a text within the limits whose lines are those of the events, with no token twice and none too early, and no line
+-- that the time rule puts behind a later one
+pub record IsTrace (delay : ℕ) (s : List ℕ) (es : List Event) : Type 0 where
   pub bytes : length s ≤ 65535
   pub ended : endsWithLf s ≡ true
   pub few : length es ≤ 256
@@ -48,3 +50,4 @@ pub record IsTrace (s : List ℕ) (es : List Event) : Type 0 where
   pub written : AllWritten es
   pub once : (j : ℕ) → j < length es → TwiceAt es j → ⊥
   pub inTime : (i : ℕ) → i < length es → TakenEarlyAt es i → ⊥
+  pub forward : (i : ℕ) → i < length es → BackwardAt delay es i → ⊥

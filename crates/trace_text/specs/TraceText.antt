@@ -11,6 +11,7 @@ use Rattle.text_reader.specs.Each.{readEach}
 use Rattle.trace_events.specs.Events.{tokensOf, eventAt}
 use Rattle.basics.specs.Searches.{anyBelow, shares, lowest}
 use Rattle.trace_line.specs.EventLine.{readEvent}
+use Rattle.trace_clocks.specs.Backward.{backward}
 use Rattle.refusals.specs.Checks.{Checked, _▹_, refuseLimit, refuseAt}
 use Rattle.trace_text.specs.Types.{Refusal, Event}
 
@@ -33,11 +34,12 @@ twice es j = putsOut (outsAt es) (outsAt es j) 0 j
 unfoldable pub takenEarly : List Event → ℕ → Bool
 takenEarly es i = putsOut (outsAt es) (insAt es i) i (length es)
 
--- 1, 2, 3; the lines from the first, on each 4, 5, 6; then 7 over the trace, lowest line; then 8 likewise
-unfoldable pub readTrace : List ℕ → Checked (List Event)
-readTrace s =
+-- 1, 2, 3; the lines from the first, on each 4, 5, 6, 54; then 7 over the trace, lowest line; then 8 likewise; then 55 likewise
+unfoldable pub readTrace : ℕ → List ℕ → Checked (List Event)
+readTrace delay s =
     refuseLimit (limitOf s) Refusal.TraceTooLong Refusal.TraceUnended Refusal.TraceTooManyLines ▹ λ _.
     readEach readEvent 0 (lines s) ▹ λ es.
     refuseAt (lowest (twice es) (length es)) Refusal.TokenTwice ▹ λ _.
     refuseAt (lowest (takenEarly es) (length es)) Refusal.TokenTooEarly ▹ λ _.
+    refuseAt (lowest (backward delay es) (length es)) Refusal.TimeBackward ▹ λ _.
     inr es

@@ -1,8 +1,10 @@
-// The text of a trace: its limits, its lines from the first, its tokens.
+// The text of a trace: its limits, its lines from the first, its tokens, its clocks.
 use crate::tokens::check_tokens;
 use refusals::Outcome;
 use refusals::Refusal;
+use refusals::first_of;
 use text_lines::Limit;
+use trace_clocks::check_clocks;
 use trace_events::Trace;
 use trace_line::EventRead;
 use trace_line::event_line;
@@ -14,7 +16,7 @@ ghost use Rattle.text_reader.specs.Each.{readEach};
 ghost use Rattle.refusals.specs.Checks.{_▹_};
 ghost use Rattle.trace_line.specs.EventLine.{readEvent};
 ghost use Rattle.trace_text.specs.TraceText.{readTrace};
-ghost use Rattle.trace_text.specs.Inner.{TraceOf, checkTokens};
+ghost use Rattle.trace_text.specs.Inner.{TraceOf, checkEvents};
 
 // Accepted, the trace holds the events; refused, none.
 pub struct TraceRead {
@@ -63,10 +65,10 @@ fn read_lines(text: &[u8]) -> TraceRead
     }
 }
 
-// The lines, and then the tokens.
-fn read_events(text: &[u8]) -> TraceRead
+// The lines, then the tokens, then the clocks.
+fn read_events(text: &[u8], delay: u32) -> TraceRead
     requires { ⌜ length (lines (now text)) ≤ 256 ⌝ }
-    ensures { λ r. ⌜ TraceOf (readEach readEvent 0 (lines (now (text .entry))) ▹ checkTokens) r ⌝ }
+    ensures { λ r. ⌜ TraceOf (readEach readEvent 0 (lines (now (text .entry))) ▹ checkEvents delay) r ⌝ }
 {
     let read = read_lines(text);
     let outcome = read.outcome;
@@ -76,7 +78,9 @@ fn read_events(text: &[u8]) -> TraceRead
         }
         Outcome::Accepted => {
             let trace = read.trace;
-            let checked = check_tokens(trace);
+            let tokens = check_tokens(trace);
+            let clocks = check_clocks(trace, delay);
+            let checked = first_of(tokens, clocks);
             match checked {
                 Outcome::Refused(r) => {
                     return refused(r);
@@ -90,14 +94,14 @@ fn read_events(text: &[u8]) -> TraceRead
 }
 
 // The events of a trace text, or what is refused.
-pub fn read_trace(text: &[u8]) -> TraceRead
-    ensures { λ r. ⌜ TraceOf (readTrace (now (text .entry))) r ⌝ }
+pub fn read_trace(text: &[u8], delay: u32) -> TraceRead
+    ensures { λ r. ⌜ TraceOf (readTrace delay (now (text .entry))) r ⌝ }
 {
     let limit = text_lines::limit_of(text);
     match limit {
         Limit::TooLong => refused(Refusal::TraceTooLong),
         Limit::Unended => refused(Refusal::TraceUnended),
         Limit::TooManyLines => refused(Refusal::TraceTooManyLines),
-        Limit::Kept => read_events(text),
+        Limit::Kept => read_events(text, delay),
     }
 }

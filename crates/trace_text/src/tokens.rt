@@ -2,10 +2,10 @@
 use refusals::Outcome;
 use refusals::Refusal;
 use refusals::first_of;
+use refusals::refused_if;
 use trace_events::Tokens;
 use trace_events::Trace;
 ghost use mathlib.Core.Path.{_≡_};
-ghost use mathlib.Core.Bool.{cond};
 ghost use Prim.Native.Nat.{ℕ, _<_, _≤_};
 ghost use lib.ListN.{getD};
 ghost use Rattle.trace_events.specs.Events.{eventsOf, eventAt, noTokens};
@@ -37,15 +37,6 @@ fn search_end(tokens: Tokens, from: usize, to: usize) -> usize
         return from;
     }
     to
-}
-
-fn refused_if(found: bool, refusal: Refusal) -> Outcome
-    ensures { λ r. ⌜ r ≡ cond found (Outcome.Refused refusal) Outcome.Accepted ⌝ }
-{
-    if found {
-        return Outcome::Refused(refusal);
-    }
-    Outcome::Accepted
 }
 
 // The lowest line that puts out a token which an earlier line puts out; then the lowest that takes in a token which this or a later

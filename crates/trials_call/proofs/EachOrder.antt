@@ -33,20 +33,20 @@ unfolding orderAt
 order-part n os k = let e : k * n + n - k * n ≡ n = omega arith in ap (λ (x : ℕ). take x (drop (k * n) os)) e
 
 -- ---- all of them are written
-module _ (es : List Event) (start : Tables) (os old : List ℕ) {n m : ℕ} (count : n ≡ length es) (orders : m ≡ orderCount n (length os)) where
+module _ (delay : ℕ) (es : List Event) (start : Tables) (os old : List ℕ) {n m : ℕ} (count : n ≡ length es) (orders : m ≡ orderCount n (length os)) where
   abbrev byte : ℕ → ℕ → ℕ
-  byte n k = orderByte es start (orderAt n os k)
+  byte n k = orderByte delay es start (orderAt n os k)
 
-  pub all-filled : (k : ℕ) → k ≡ m → {out : List ℕ} → out ≡ filled (byte n) old k → out ≡ startingWith (orderBytes es start os) old
+  pub all-filled : (k : ℕ) → k ≡ m → {out : List ℕ} → out ≡ filled (byte n) old k → out ≡ startingWith (orderBytes delay es start os) old
   unfolding orderBytes
   all-filled k last {out} e =
       let whole : m ≡ orderCount (length es) (length os) = orders ∙ ap (λ (x : ℕ). orderCount x (length os)) count in
-      let size : length (orderBytes es start os) ≡ m = bytes-length es start os ∙ sym whole in
+      let size : length (orderBytes delay es start os) ≡ m = bytes-length delay es start os ∙ sym whole in
       e ∙ ap (filled (byte n) old) last ∙ ap (λ (x : ℕ). filled (byte x) old m) count
       ∙ (λ i. gather (λ j. byte (length es) j ∷ []) (whole i) ++ drop (sym size i) old)
 
 -- ---- what the recorded order leaves
-pub recorded-ends : (es : List Event) (rs : List Row) (n : ℕ) (earlier masks plans : List (List ℕ)) (priorities set codes : List ℕ) (end : Ended)
-    (f : From es rs n earlier masks plans priorities set codes) → {o : List ℕ} → o ≡ recorded es → EndsAs es (f .slots) o set codes end
-    → Ready es rs n earlier masks plans priorities set codes end
-recorded-ends es rs n earlier masks plans priorities set codes end f p e = record { start = f; ends = subst (λ o. EndsAs es (f .slots) o set codes end) p e }
+pub recorded-ends : (delay : ℕ) (es : List Event) (rs : List Row) (n : ℕ) (earlier masks plans : List (List ℕ)) (priorities set codes : List ℕ) (end : Ended)
+    (f : From delay es rs n earlier masks plans priorities set codes) → {o : List ℕ} → o ≡ recorded es → EndsAs es (f .slots) o set codes end
+    → Ready delay es rs n earlier masks plans priorities set codes end
+recorded-ends delay es rs n earlier masks plans priorities set codes end f p e = record { start = f; ends = subst (λ o. EndsAs es (f .slots) o set codes end) p e }

@@ -32,42 +32,42 @@ refused-as : {y : Checked (List ℕ)} {e : Refusal} {old : List ℕ} → inl e �
 refused-as p = leaves-as p (record { answer = refl; bytes = refl })
 
 -- ---- 52; 53; or the bytes
-module _ (es : List Event) (start : Tables) (os old : List ℕ) {n : ℕ} (count : length es ≡ n) where
-  pub lengths-uneven : uneven n (length os) ≡ true → Leaves (triedFrom es start os (length old)) (TrialsAnswer.Refused Refusal.OrdersUneven) old old
+module _ (delay : ℕ) (es : List Event) (start : Tables) (os old : List ℕ) {n : ℕ} (count : length es ≡ n) where
+  pub lengths-uneven : uneven n (length os) ≡ true → Leaves (triedFrom delay es start os (length old)) (TrialsAnswer.Refused Refusal.OrdersUneven) old old
   lengths-uneven u = refused-as (sym (rw (count, u) refl))
 
   module _ (even : uneven n (length os) ≡ false) {m : ℕ} (orders : m ≡ orderCount n (length os)) where
-    size : length (orderBytes es start os) ≡ m
-    size = bytes-length es start os ∙ ap (λ (k : ℕ). orderCount k (length os)) count ∙ sym orders
+    size : length (orderBytes delay es start os) ≡ m
+    size = bytes-length delay es start os ∙ ap (λ (k : ℕ). orderCount k (length os)) count ∙ sym orders
 
     even-here : uneven (length es) (length os) ≡ false
     even-here = ap (λ (k : ℕ). uneven k (length os)) count ∙ even
 
-    pub bytes-short : length old < m → Leaves (triedFrom es start os (length old)) (TrialsAnswer.Refused (Refusal.TrialsShort m)) old old
+    pub bytes-short : length old < m → Leaves (triedFrom delay es start os (length old)) (TrialsAnswer.Refused (Refusal.TrialsShort m)) old old
     bytes-short h = refused-as (sym (rw (even-here, size, lt-ltb (length old) m h) refl))
 
-    pub bytes-written : m ≤ length old → {new : List ℕ} → new ≡ startingWith (orderBytes es start os) old
-        → Leaves (triedFrom es start os (length old)) (TrialsAnswer.Orders m) old new
+    pub bytes-written : m ≤ length old → {new : List ℕ} → new ≡ startingWith (orderBytes delay es start os) old
+        → Leaves (triedFrom delay es start os (length old)) (TrialsAnswer.Orders m) old new
     bytes-written h e =
-        leaves-as {y = inr (orderBytes es start os)}
-        (sym (rw (even-here, le-ltb (length old) (length (orderBytes es start os)) (omega (arith, size))) refl))
+        leaves-as {y = inr (orderBytes delay es start os)}
+        (sym (rw (even-here, le-ltb (length old) (length (orderBytes delay es start os)) (omega (arith, size))) refl))
         (record { answer = ap TrialsAnswer.Orders (sym size); bytes = e })
 
 -- ---- the texts refused, or what follows
-module _ (s t os : List ℕ) (room : ℕ) where
-  in-turn : (readBoth s t ▹ λ (es, rs). triedFrom es (tablesOf rs) os room) ≡ tried s t os room
+module _ (delay : ℕ) (s t os : List ℕ) (room : ℕ) where
+  in-turn : (readBoth delay s t ▹ λ (es, rs). triedFrom delay es (tablesOf rs) os room) ≡ tried delay s t os room
   unfolding tried
-  in-turn = both-then s t (λ es rs. triedFrom es (tablesOf rs) os room)
+  in-turn = both-then delay s t (λ es rs. triedFrom delay es (tablesOf rs) os room)
 
-  pub texts-refused : {e : Refusal} {old : List ℕ} → inl e ≡ readBoth s t → Leaves (tried s t os room) (TrialsAnswer.Refused e) old old
-  texts-refused p = refused-as (ap (λ x. x ▹ λ (es, rs). triedFrom es (tablesOf rs) os room) p ∙ in-turn)
+  pub texts-refused : {e : Refusal} {old : List ℕ} → inl e ≡ readBoth delay s t → Leaves (tried delay s t os room) (TrialsAnswer.Refused e) old old
+  texts-refused p = refused-as (ap (λ x. x ▹ λ (es, rs). triedFrom delay es (tablesOf rs) os room) p ∙ in-turn)
 
-  pub texts-accepted : (es : List Event) (rs : List Row) {r : TrialsAnswer} {old new : List ℕ} → inr (es, rs) ≡ readBoth s t
-      → Leaves (triedFrom es (tablesOf rs) os room) r old new → Leaves (tried s t os room) r old new
-  texts-accepted es rs p l = leaves-as (ap (λ x. x ▹ λ (es, rs). triedFrom es (tablesOf rs) os room) p ∙ in-turn) l
+  pub texts-accepted : (es : List Event) (rs : List Row) {r : TrialsAnswer} {old new : List ℕ} → inr (es, rs) ≡ readBoth delay s t
+      → Leaves (triedFrom delay es (tablesOf rs) os room) r old new → Leaves (tried delay s t os room) r old new
+  texts-accepted es rs p l = leaves-as (ap (λ x. x ▹ λ (es, rs). triedFrom delay es (tablesOf rs) os room) p ∙ in-turn) l
 
 -- the rows of accepted tables are in order and of the switches 0 to 15, as the events of an accepted trace are
-pub held : (s t : List ℕ) (es : List Event) (rs : List Row) → inr (es, rs) ≡ readBoth s t → Held es rs
-held s t es rs p =
-    let h = both-accepted s t es rs (sym p) in
-    record { sorted = accepted-sorted t rs (h .1); switches = λ i. events-in-range s es (h .0) i .switch; beyond = accepted-beyond t rs (h .1) }
+pub held : (delay : ℕ) (s t : List ℕ) (es : List Event) (rs : List Row) → inr (es, rs) ≡ readBoth delay s t → Held es rs
+held delay s t es rs p =
+    let h = both-accepted delay s t es rs (sym p) in
+    record { sorted = accepted-sorted t rs (h .1); switches = λ i. events-in-range delay s es (h .0) i .switch; beyond = accepted-beyond t rs (h .1) }

@@ -11,7 +11,7 @@ use Rattle.refusals.specs.Checks.{outcomeOf}
 use Rattle.rows.specs.Rows.{tablesOf}
 use Rattle.happens_before.specs.Inner.{bit}
 use Rattle.order_check.specs.Schedule.{checkBy, checkOrder}
-use Rattle.order_check.proofs.Accepted.{order-accepted-iff, recorded-order}
+use Rattle.order_check.proofs.Accepted.{accepted-complete, recorded-order}
 use Rattle.order_check.proofs.ByRows.{check-rows}
 use Rattle.order_rows.specs.Runs.{recorded}
 use Rattle.order_rows.specs.Inner.{runRows, answersIn}
@@ -22,22 +22,22 @@ use Rattle.slots_run.specs.Inner.{EndsAs, SameEnds}
 use Rattle.trials_call.specs.Types.{Refusal, Outcome, Event, Row, Ended}
 use Rattle.trials_call.specs.Inner.{Ready}
 
-module _ (es : List Event) (rs : List Row) (n : ℕ) (earlier masks plans : List (List ℕ)) (priorities set codes : List ℕ) (end : Ended)
-    (ready : Ready es rs n earlier masks plans priorities set codes end) (o : List ℕ) (c : Outcome)
+module _ (delay : ℕ) (es : List Event) (rs : List Row) (n : ℕ) (earlier masks plans : List (List ℕ)) (priorities set codes : List ℕ) (end : Ended)
+    (ready : Ready delay es rs n earlier masks plans priorities set codes end) (o : List ℕ) (c : Outcome)
     (checked : outcomeOf c tt ≡ checkBy (bit earlier) n o) where
   -- the check by numbers is that of the order
-  told : outcomeOf c tt ≡ checkOrder es o
-  told = checked ∙ ap (λ (k : ℕ). checkBy (bit earlier) k o) (ready .start .count) ∙ check-rows es earlier (ready .start .before) o
+  told : outcomeOf c tt ≡ checkOrder delay es o
+  told = checked ∙ ap (λ (k : ℕ). checkBy (bit earlier) k o) (ready .start .count) ∙ check-rows delay es earlier (ready .start .before) o
 
-  pub order-refused : {e : Refusal} → c ≡ Outcome.Refused e → 2 ≡ orderByte es (tablesOf rs) o
+  pub order-refused : {e : Refusal} → c ≡ Outcome.Refused e → 2 ≡ orderByte delay es (tablesOf rs) o
   unfolding orderByte
   order-refused {e} p =
-      let refused : checkOrder es o ≡ inl e = sym told ∙ ap (λ z. outcomeOf z tt) p in
+      let refused : checkOrder delay es o ≡ inl e = sym told ∙ ap (λ z. outcomeOf z tt) p in
       sym (ap (λ x. byteBy x (agreeing es (tablesOf rs) o (recorded es))) refused)
 
   -- an accepted order
   module _ (p : c ≡ Outcome.Accepted) (r : Ended) (ends : EndsAs es (ready .start .slots) o set codes r) {b : Bool} (same : SameEnds r end n b) where
-    accepted : checkOrder es o ≡ inr tt
+    accepted : checkOrder delay es o ≡ inr tt
     accepted = sym told ∙ ap (λ z. outcomeOf z tt) p
 
     -- the ends are equal exactly if the rows and the answers are
@@ -54,9 +54,9 @@ module _ (es : List Event) (rs : List Row) (n : ℕ) (earlier masks plans : List
 
     agrees : b ≡ agreeing es (tablesOf rs) o (recorded es)
     agrees =
-        let iff = rows-agree-iff es rs (ready .start .held) o (recorded es) (order-accepted-iff es o .0 accepted .0) (recorded-order (length es)) in
+        let iff = rows-agree-iff es rs (ready .start .held) o (recorded es) (accepted-complete delay es o accepted) (recorded-order (length es)) in
         both-ways b (agreeing es (tablesOf rs) o (recorded es)) (λ h. iff .0 (as-rows .0 h)) (λ h. as-rows .1 (iff .1 h))
 
-    pub order-ended : cond b 0 1 ≡ orderByte es (tablesOf rs) o
+    pub order-ended : cond b 0 1 ≡ orderByte delay es (tablesOf rs) o
     unfolding orderByte
     order-ended = ap (λ x. cond x 0 1) agrees ∙ sym (ap (λ x. byteBy x (agreeing es (tablesOf rs) o (recorded es))) accepted)

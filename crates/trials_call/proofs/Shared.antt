@@ -11,12 +11,12 @@ use Rattle.slots_plan.specs.Inner.{Prepares}
 use Rattle.trials_call.specs.Types.{Event, Row}
 use Rattle.trials_call.specs.Inner.{Sound, From}
 
-module _ (es : List Event) (rs : List Row) (n : ℕ) (count : length es ≡ n) (earlier masks plans : List (List ℕ)) (priorities set codes : List ℕ)
-    (before : HappensBefore es earlier) (prepares : Prepares es rs masks plans priorities set codes) where
+module _ (delay : ℕ) (es : List Event) (rs : List Row) (n : ℕ) (count : length es ≡ n) (earlier masks plans : List (List ℕ)) (priorities set codes : List ℕ)
+    (before : HappensBefore delay es earlier) (prepares : Prepares es rs masks plans priorities set codes) where
   pub sound : n ≤ 256 → Sound n earlier plans codes
-  sound few = record { few = few; events = λ i j e. omega (arith, rows-inside es earlier before i j e); actions = prepares .codes; planned = prepares .plans }
+  sound few = record { few = few; events = λ i j e. omega (arith, rows-inside delay es earlier before i j e); actions = prepares .codes; planned = prepares .plans }
 
-  pub from-rows : Held es rs → From es rs n earlier masks plans priorities set codes
+  pub from-rows : Held es rs → From delay es rs n earlier masks plans priorities set codes
   from-rows held = record {
     count = sym count;
     held = held;

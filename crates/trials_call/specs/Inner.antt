@@ -17,11 +17,11 @@ use Rattle.trials_call.specs.Types.{Refusal, Event, Row, Ended, TrialsAn
 use Rattle.trials_call.specs.Tried.{trialsAnswer}
 
 -- 52; 53; then the bytes
-abbrev pub triedFrom : List Event → Tables → List ℕ → ℕ → Checked (List ℕ)
-triedFrom es start os room =
+abbrev pub triedFrom : ℕ → List Event → Tables → List ℕ → ℕ → Checked (List ℕ)
+triedFrom delay es start os room =
     refuseIf (uneven (length es) (length os)) Refusal.OrdersUneven ▹ λ _.
-    refuseShort room (orderBytes es start os) Refusal.TrialsShort ▹ λ _.
-    inr (orderBytes es start os)
+    refuseShort room (orderBytes delay es start os) Refusal.TrialsShort ▹ λ _.
+    inr (orderBytes delay es start os)
 
 -- an answer and a buffer, before and after, are as the call leaves them
 pub record Leaves (y : Checked (List ℕ)) (r : TrialsAnswer) (old new : List ℕ) : Type 0 where
@@ -36,16 +36,16 @@ pub record Sound (n : ℕ) (earlier plans : List (List ℕ)) (codes : List ℕ) 
   pub planned : (e : ℕ) → e < 256 → (getD (getD plans e []) 1 0 < 65538) × (getD (getD plans e []) 3 0 < 512) × (getD (getD plans e []) 4 0 < 65538)
 
 -- it is that of the events from the rows: happens-before, the slots with the steps of all events, and the starting rows as slots
-pub record From (es : List Event) (rs : List Row) (n : ℕ) (earlier masks plans : List (List ℕ)) (priorities set codes : List ℕ) : Type 0 where
+pub record From (delay : ℕ) (es : List Event) (rs : List Row) (n : ℕ) (earlier masks plans : List (List ℕ)) (priorities set codes : List ℕ) : Type 0 where
   pub count : n ≡ length es
   pub held : Held es rs
-  pub before : HappensBefore es earlier
+  pub before : HappensBefore delay es earlier
   pub slots : List Row
   pub steps : SlotsOf es slots masks plans priorities
   pub inside : Inside slots set
   pub rows : stateRows slots set codes ≡ rs
 
 -- and the end is that of the recorded order
-pub record Ready (es : List Event) (rs : List Row) (n : ℕ) (earlier masks plans : List (List ℕ)) (priorities set codes : List ℕ) (end : Ended) : Type 0 where
-  pub start : From es rs n earlier masks plans priorities set codes
+pub record Ready (delay : ℕ) (es : List Event) (rs : List Row) (n : ℕ) (earlier masks plans : List (List ℕ)) (priorities set codes : List ℕ) (end : Ended) : Type 0 where
+  pub start : From delay es rs n earlier masks plans priorities set codes
   pub ends : EndsAs es (start .slots) (recorded es) set codes end

@@ -11,13 +11,13 @@ use Rattle.order_trials.specs.Trials.{uneven, orderBytes}
 use Rattle.trials_call.specs.Types.{Refusal, TrialsAnswer}
 
 -- what is made of a trace's text, a table text, orders end to end and the length of the buffer, a line a check: 1 to 8; 11 to 16; 52; 53
-unfoldable pub tried : List ℕ → List ℕ → List ℕ → ℕ → Checked (List ℕ)
-tried trace tables os room =
-    readTrace trace ▹ λ es.
+unfoldable pub tried : ℕ → List ℕ → List ℕ → List ℕ → ℕ → Checked (List ℕ)
+tried delay trace tables os room =
+    readTrace delay trace ▹ λ es.
     readTables tables ▹ λ rs.
     refuseIf (uneven (length es) (length os)) Refusal.OrdersUneven ▹ λ _.
-    refuseShort room (orderBytes es (tablesOf rs) os) Refusal.TrialsShort ▹ λ _.
-    inr (orderBytes es (tablesOf rs) os)
+    refuseShort room (orderBytes delay es (tablesOf rs) os) Refusal.TrialsShort ▹ λ _.
+    inr (orderBytes delay es (tablesOf rs) os)
 
 -- what is returned: the number of orders, or the refusal
 abbrev pub trialsAnswer : Checked (List ℕ) → TrialsAnswer

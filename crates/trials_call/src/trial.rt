@@ -4,6 +4,7 @@ use refusals::Outcome;
 use slots_run::Ended;
 ghost use mathlib.Core.Path.{_≡_};
 ghost use mathlib.Core.List.{List};
+ghost use Prim.Native.Nat.{ℕ};
 ghost use Rattle.rows.specs.Rows.{tablesOf};
 ghost use Rattle.order_trials.specs.Trials.{orderByte};
 ghost use Rattle.trials_call.specs.Types.{Event, Row};
@@ -22,7 +23,7 @@ pub(crate) fn trial(
     order: &[u8],
 ) -> u8
     requires { ⌜ Sound n (now earlier) (now plans) codes ⌝ }
-    ensures { λ r. ⌜ ((es : List Event) (rs : List Row) → Ready es rs n (now (earlier .entry)) (now (masks .entry)) (now (plans .entry)) (now (priorities .entry)) set codes recorded → r ≡ orderByte es (tablesOf rs) (now (order .entry))) ⌝ }
+    ensures { λ r. ⌜ ((delay : ℕ) (es : List Event) (rs : List Row) → Ready delay es rs n (now (earlier .entry)) (now (masks .entry)) (now (plans .entry)) (now (priorities .entry)) set codes recorded → r ≡ orderByte delay es (tablesOf rs) (now (order .entry))) ⌝ }
 {
     let outcome = check_order(n, earlier, order);
     match outcome {

@@ -11,7 +11,7 @@ use trace_events::Trace;
 ghost use mathlib.Core.Path.{_≡_};
 ghost use mathlib.Core.Bool.{false};
 ghost use mathlib.Core.List.{List};
-ghost use Prim.Native.Nat.{_≤_};
+ghost use Prim.Native.Nat.{ℕ, _≤_};
 ghost use lib.ListN.{length};
 ghost use Rattle.basics.specs.Text.{startingWith};
 ghost use Rattle.refusals.specs.Checks.{written};
@@ -39,7 +39,7 @@ fn try_each(
     out: &mut [u8],
 )
     requires { ⌜ Sound n (now earlier) (now plans) codes × (now recorded ≡ from 0 n) × (uneven n (length (now orders)) ≡ false) × (m ≡ orderCount n (length (now orders))) × (m ≤ length (now out)) ⌝ }
-    ensures { λ _. ⌜ ((es : List Event) (rs : List Row) → From es rs n (now (earlier .entry)) (now (masks .entry)) (now (plans .entry)) (now (priorities .entry)) set codes → now (out .exit) ≡ startingWith (orderBytes es (tablesOf rs) (now (orders .entry))) (now (out .entry))) ⌝ }
+    ensures { λ _. ⌜ ((delay : ℕ) (es : List Event) (rs : List Row) → From delay es rs n (now (earlier .entry)) (now (masks .entry)) (now (plans .entry)) (now (priorities .entry)) set codes → now (out .exit) ≡ startingWith (orderBytes delay es (tablesOf rs) (now (orders .entry))) (now (out .entry))) ⌝ }
 {
     let end = slots_run::run(masks, plans, priorities, set, codes, recorded);
     for k in 0..m {
@@ -61,12 +61,12 @@ fn try_each(
 }
 
 // The bytes of m orders, from the buffer's start. What they share is worked out once.
-fn try_all(t: Trace, start: Rows, orders: &[u8], m: usize, out: &mut [u8])
+fn try_all(t: Trace, start: Rows, orders: &[u8], delay: u32, m: usize, out: &mut [u8])
     requires { ⌜ (t .len ≤ 256) × (start .len ≤ 256) × Held (eventsOf t) (rowsOf start) × (uneven (t .len) (length (now orders)) ≡ false) × (m ≡ orderCount (t .len) (length (now orders))) × (m ≤ length (now out)) ⌝ }
-    ensures { λ _. ⌜ now (out .exit) ≡ startingWith (orderBytes (eventsOf t) (tablesOf (rowsOf start)) (now (orders .entry))) (now (out .entry)) ⌝ }
+    ensures { λ _. ⌜ now (out .exit) ≡ startingWith (orderBytes delay (eventsOf t) (tablesOf (rowsOf start)) (now (orders .entry))) (now (out .entry)) ⌝ }
 {
     let n = t.len;
-    let earlier = happens_before::happens_before(t);
+    let earlier = happens_before::happens_before(t, delay);
     let slots = slots_plan::slots_of(t, start);
     let masks = slots_plan::masks_of(t, slots);
     let plans = slots_plan::plans_of(t, slots);
@@ -91,9 +91,9 @@ fn try_all(t: Trace, start: Rows, orders: &[u8], m: usize, out: &mut [u8])
 }
 
 // 52, 53; then the bytes.
-fn try_on(t: Trace, start: Rows, orders: &[u8], out: &mut [u8]) -> TrialsAnswer
+fn try_on(t: Trace, start: Rows, orders: &[u8], delay: u32, out: &mut [u8]) -> TrialsAnswer
     requires { ⌜ (t .len ≤ 256) × (start .len ≤ 256) × Held (eventsOf t) (rowsOf start) ⌝ }
-    ensures { λ r. ⌜ Leaves (triedFrom (eventsOf t) (tablesOf (rowsOf start)) (now (orders .entry)) (length (now (out .entry)))) r (now (out .entry)) (now (out .exit)) ⌝ }
+    ensures { λ r. ⌜ Leaves (triedFrom delay (eventsOf t) (tablesOf (rowsOf start)) (now (orders .entry)) (length (now (out .entry)))) r (now (out .entry)) (now (out .exit)) ⌝ }
 {
     let n = t.len;
     let len = orders.len();
@@ -104,24 +104,30 @@ fn try_on(t: Trace, start: Rows, orders: &[u8], out: &mut [u8]) -> TrialsAnswer
     if out.len() < m {
         return TrialsAnswer::Refused(Refusal::TrialsShort(m));
     }
-    try_all(t, start, orders, m, out);
+    try_all(t, start, orders, delay, m, out);
     TrialsAnswer::Orders(m)
 }
 
-// Orders of a trace's events end to end, one byte for each event, from the tables of a text: a byte an order, from the buffer's start,
+// Orders of a trace's events end to end, one byte for each event, under a delay, from the tables of a text: a byte an order, from the buffer's start,
 // and how many there are. The bytes past them, or all after a refusal, stay as they were.
-pub fn try_orders(trace: &[u8], tables: &[u8], orders: &[u8], out: &mut [u8]) -> TrialsAnswer
-    ensures { λ r. ⌜ r ≡ trialsAnswer (tried (now (trace .entry)) (now (tables .entry)) (now (orders .entry)) (length (now (out .entry)))) ⌝ }
-    ensures { λ _. ⌜ now (out .exit) ≡ written (tried (now (trace .entry)) (now (tables .entry)) (now (orders .entry)) (length (now (out .entry)))) (now (out .entry)) ⌝ }
+pub fn try_orders(
+    trace: &[u8],
+    tables: &[u8],
+    orders: &[u8],
+    delay: u32,
+    out: &mut [u8],
+) -> TrialsAnswer
+    ensures { λ r. ⌜ r ≡ trialsAnswer (tried delay (now (trace .entry)) (now (tables .entry)) (now (orders .entry)) (length (now (out .entry)))) ⌝ }
+    ensures { λ _. ⌜ now (out .exit) ≡ written (tried delay (now (trace .entry)) (now (tables .entry)) (now (orders .entry)) (length (now (out .entry)))) (now (out .entry)) ⌝ }
 {
-    let read = read_both(trace, tables);
+    let read = read_both(trace, tables, delay);
     let outcome = read.outcome;
     match outcome {
         Outcome::Refused(r) => TrialsAnswer::Refused(r),
         Outcome::Accepted => {
             let events = read.trace;
             let start = read.rows;
-            try_on(events, start, orders, out)
+            try_on(events, start, orders, delay, out)
         }
     }
 }

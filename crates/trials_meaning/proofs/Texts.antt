@@ -26,7 +26,7 @@ use Rattle.tables_text.specs.TableText.{readTables}
 use Rattle.tables_text.proofs.Accepted.{accepted-sorted}
 use Rattle.tables_normal.proofs.OfTables.{accepted-beyond}
 use Rattle.order_check.specs.Schedule.{complete, firstEarly, checkOrder}
-use Rattle.order_check.proofs.Accepted.{order-accepted-iff}
+use Rattle.order_check.proofs.Accepted.{accepted-complete}
 use Rattle.order_rows.specs.Runs.{operationAt}
 use Rattle.order_rows.proofs.EndTables.{run-tables}
 use Rattle.order_rows.proofs.Answering.{absent}
@@ -47,27 +47,27 @@ none-given es [] start i h = refl
 none-given es (j ∷ o) start i h = rw (or-left (eqb i j) (has i o) h) (none-given es o (stepOf (operationAt es j) start) i (or-right (eqb i j) (has i o) h))
 
 -- 21 and 22 are what an order is refused by
-pub order-numbers : (es : List Event) (o : List ℕ) (r : Refusal) → checkOrder es o ≡ inl r → (numberOf r ≡ 21) ⊎ (numberOf r ≡ 22)
+pub order-numbers : (delay : ℕ) (es : List Event) (o : List ℕ) (r : Refusal) → checkOrder delay es o ≡ inl r → (numberOf r ≡ 21) ⊎ (numberOf r ≡ 22)
 unfolding checkOrder
-order-numbers es o r = go (complete (length es) o) (firstEarly es o)
+order-numbers delay es o r = go (complete (length es) o) (firstEarly delay es o)
   where
     go : (b : Bool) (p : Option ℕ) → (refuseIf (not b) Refusal.OrderIncomplete ▹ λ _. refuseAt p Refusal.EventTooEarly) ≡ inl r → (numberOf r ≡ 21) ⊎ (numberOf r ≡ 22)
     go false p e = inl (ap numberOf (sym (let q : Refusal.OrderIncomplete ≡ r = cc in q)))
     go true (some k) e = inr (ap numberOf (sym (let q : Refusal.EventTooEarly k ≡ r = cc in q)))
     go true none e = absurd (accepts e)
 
-module _ (s t : List ℕ) (es : List Event) (rs : List Row) (trace : readTrace s ≡ inr es) (tables : readTables t ≡ inr rs) where
+module _ (delay : ℕ) (s t : List ℕ) (es : List Event) (rs : List Row) (trace : readTrace delay s ≡ inr es) (tables : readTables t ≡ inr rs) where
   -- the rows of accepted tables, and the events of an accepted trace
   held : Held es rs
-  held = record { sorted = accepted-sorted t rs tables; switches = λ i. events-in-range s es trace i .switch; beyond = accepted-beyond t rs tables }
+  held = record { sorted = accepted-sorted t rs tables; switches = λ i. events-in-range delay s es trace i .switch; beyond = accepted-beyond t rs tables }
 
-  module _ (o q : List ℕ) (order : checkOrder es o ≡ inr tt) (other : checkOrder es q ≡ inr tt) where
-    whole : (p : List ℕ) → checkOrder es p ≡ inr tt → IsOrderOf (length es) p
-    whole p e = order-accepted-iff es p .0 e .0
+  module _ (o q : List ℕ) (order : checkOrder delay es o ≡ inr tt) (other : checkOrder delay es q ≡ inr tt) where
+    whole : (p : List ℕ) → checkOrder delay es p ≡ inr tt → IsOrderOf (length es) p
+    whole p e = accepted-complete delay es p e
 
     pub agreeing-texts-iff : (agreeing es (tablesOf rs) o q ≡ true) ↔ (textsOf es o (tablesOf rs) ≡ textsOf es q (tablesOf rs))
     agreeing-texts-iff =
-        let tell = texts-tell s t es rs trace tables o q order other in (
+        let tell = texts-tell delay s t es rs trace tables o q order other in (
           λ h.
               let rows = rows-agree-iff es rs held o q (whole o order) (whole q other) .1 h .0 in
               let left : (w : ℕ) → endTables (operationAt es) o (tablesOf rs) w ≡ endTables (operationAt es) q (tablesOf rs) w = λ w. sym (run-tables es o rs (held .sorted) w) ∙ ap (tableOf w) rows ∙ run-tables es q rs (held .sorted) w in
@@ -81,13 +81,13 @@ module _ (s t : List ℕ) (es : List Event) (rs : List Row) (trace : readTrace s
 
   module _ (o : List ℕ) (room room' : ℕ) where
     -- a refused order is what the replay refuses
-    pub refused-told : (r : Refusal) → checkOrder es o ≡ inl r → replayed s t o room room' ≡ inl r
+    pub refused-told : (r : Refusal) → checkOrder delay es o ≡ inl r → replayed delay s t o room room' ≡ inl r
     unfolding replayed
     refused-told r e = rw (trace, tables, e) refl
 
     -- an accepted order isn't refused by 21 or 22
-    pub never-refused : checkOrder es o ≡ inr tt → OrderRefused s t o room room' → ⊥
-    never-refused e (r, p, n) = go (ltb room (length (x .tables))) (ltb room' (length (x .answers))) (sym (only-rooms s t o es rs trace tables e room room') ∙ p)
+    pub never-refused : checkOrder delay es o ≡ inr tt → OrderRefused delay s t o room room' → ⊥
+    never-refused e (r, p, n) = go (ltb room (length (x .tables))) (ltb room' (length (x .answers))) (sym (only-rooms delay s t o es rs trace tables e room room') ∙ p)
       where
         x : Replayed
         x = textsOf es o (tablesOf rs)
@@ -98,11 +98,11 @@ module _ (s t : List ℕ) (es : List Event) (rs : List Row) (trace : readTrace s
         go false false g = accepts g
 
     -- what is written is the texts of an accepted order
-    pub writes-texts : (x : Replayed) → replayed s t o room room' ≡ inr x → (checkOrder es o ≡ inr tt) × (textsOf es o (tablesOf rs) ≡ x)
-    writes-texts x e = by (checkOrder es o) refl
+    pub writes-texts : (x : Replayed) → replayed delay s t o room room' ≡ inr x → (checkOrder delay es o ≡ inr tt) × (textsOf es o (tablesOf rs) ≡ x)
+    writes-texts x e = by (checkOrder delay es o) refl
       where
-        fits : checkOrder es o ≡ inr tt → textsOf es o (tablesOf rs) ≡ x
-        fits a = go (ltb room (length (y .tables))) (ltb room' (length (y .answers))) (sym (only-rooms s t o es rs trace tables a room room') ∙ e)
+        fits : checkOrder delay es o ≡ inr tt → textsOf es o (tablesOf rs) ≡ x
+        fits a = go (ltb room (length (y .tables))) (ltb room' (length (y .answers))) (sym (only-rooms delay s t o es rs trace tables a room room') ∙ e)
           where
             y : Replayed
             y = textsOf es o (tablesOf rs)
@@ -112,6 +112,6 @@ module _ (s t : List ℕ) (es : List Event) (rs : List Row) (trace : readTrace s
             go false true g = refuses g
             go false false g = same-value g
 
-        by : (c : Checked (Unit {0})) → checkOrder es o ≡ c → (checkOrder es o ≡ inr tt) × (textsOf es o (tablesOf rs) ≡ x)
+        by : (c : Checked (Unit {0})) → checkOrder delay es o ≡ c → (checkOrder delay es o ≡ inr tt) × (textsOf es o (tablesOf rs) ≡ x)
         by (inl r) p = refuses (sym (refused-told r p) ∙ e)
         by (inr u) p = (p, fits p)

@@ -12,7 +12,7 @@ returns c =
     let tabled = at-outcome .before .read-tables in
     let traced = at-outcome .before .before .read-trace in
     let a = at-outcome .before .before .before .before .before .args in (
-      read-both (now (a .trace)) (now (a .tables)) (traced .result .outcome) (tabled .result .outcome)
+      read-both _ (now (a .trace)) (now (a .tables)) (traced .result .outcome) (tabled .result .outcome)
           (eventsOf (traced .result .trace)) (rowsOf (tabled .result .rows))
           (at-outcome .first-of .ensures) (traced .ensures .answer) (tabled .ensures .answer),
       traced .ensures .few,

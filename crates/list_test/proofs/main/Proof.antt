@@ -4,10 +4,10 @@ use Rattle.list_test.proofs.main.Statement.{statement}
 use Rattle.list_test.proofs.main.Tie as tie
 
 abbrev Inv-loop : tie.InvT-loop
-Inv-loop i₀ i = i ≤ 77
+Inv-loop i₀ i = i ≤ 84
 
 abbrev μ-loop : tie.MeasureT-loop
-μ-loop i₀ i = 77 - i
+μ-loop i₀ i = 84 - i
 
 pub main-spec : {M : Type 1} → statement M
 main-spec =

@@ -8,8 +8,8 @@ use Rattle.racelist.proofs.answer.Statement.{statement}
 use Rattle.racelist.proofs.answer.Tie as tie
 
 -- what is printed fits the buffer
-text-fits : (c : tie.Then2) → c .before .before .report .result ≤ length (c .before .before .report .last .1 .0)
-text-fits c = omega (arith, c .if2 .taken, c .before .before .report .kept .1 .0, c .before .before .before .before .short-room .ensures)
+text-fits : (c : tie.Then2) → c .before .before .report .result ≤ length (c .before .before .report .last .1 .1 .0)
+text-fits c = omega (arith, c .if2 .taken, c .before .before .report .kept .1 .1 .0, c .before .before .before .before .short-room .ensures)
 
 array-share-prefix-out : tie.Need-array-share-prefix-out
 array-share-prefix-out c = text-fits c

@@ -8,8 +8,8 @@ use Rattle.racelist.proofs.answer_in_full.Statement.{statement}
 use Rattle.racelist.proofs.answer_in_full.Tie as tie
 
 -- what is printed fits the buffer
-text-fits : (c : tie.After-out2) → c .before .report .result ≤ length (c .before .report .last .1 .0)
-text-fits c = omega (arith, c .before .report .ensures .1, c .before .report .kept .1 .0, c .before .before .before .room .ensures)
+text-fits : (c : tie.After-out2) → c .before .report .result ≤ length (c .before .report .last .1 .1 .0)
+text-fits c = omega (arith, c .before .report .ensures .1, c .before .report .kept .1 .1 .0, c .before .before .before .room .ensures)
 
 array-share-prefix-out : tie.Need-array-share-prefix-out
 array-share-prefix-out c = text-fits c

@@ -6,13 +6,13 @@ use Rattle.share_call.proofs.share.Tie as tie
 returns : tie.Need-returns
 returns c =
     let read = c .before .before .before .read-trace in
-    call-refused _ (read .result) (read .ensures .answer) _ (c .before .outcome .given .1)
+    call-refused _ _ (read .result) (read .ensures .answer) _ (c .before .outcome .given .1)
 
 returns-2 : tie.Need-returns-2
 returns-2 c =
     let told = c .before .before in
     let read = told .before .before .read-trace in
-    call-accepted _ (read .result) (read .ensures .answer) _ (told .enum-told .given .1) (c .share-in .ensures)
+    call-accepted _ _ (read .result) (read .ensures .answer) _ (told .enum-told .given .1) (c .share-in .ensures)
 
 pub share-spec : {M : Type 1} → statement M
 share-spec =

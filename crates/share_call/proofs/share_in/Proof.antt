@@ -8,7 +8,7 @@ use Rattle.share_call.proofs.share_in.Tie as tie
 returns : tie.Need-returns
 returns c =
     let made = c .before .before .list-of in
-    c .share-of .ensures ∙ ap shareOf (counts-are _ (made .result) _ (made .ensures))
+    c .share-of .ensures ∙ ap shareOf (counts-are _ _ (made .result) _ (made .ensures))
 
 pub share-in-spec : {M : Type 1} → statement M
 share-in-spec =

@@ -4,10 +4,10 @@ use Rattle.trace_test.proofs.main.Statement.{statement}
 use Rattle.trace_test.proofs.main.Tie as tie
 
 abbrev Inv-loop : tie.InvT-loop
-Inv-loop i₀ i = i ≤ 169
+Inv-loop i₀ i = i ≤ 181
 
 abbrev μ-loop : tie.MeasureT-loop
-μ-loop i₀ i = 169 - i
+μ-loop i₀ i = 181 - i
 
 pub main-spec : {M : Type 1} → statement M
 main-spec =

@@ -1,4 +1,5 @@
 use mathlib.Core.Path.{refl}
+use borrow.Author.Needs.{needs}
 use Rattle.happens_before.specs.Inner.{searchFrom}
 use Rattle.happens_before.proofs.closure.search_from.Statement.{statement}
 use Rattle.happens_before.proofs.closure.search_from.Tie as tie
@@ -12,4 +13,4 @@ unfolding searchFrom
 returns-2 c = rw (c .if1 .left) refl
 
 pub search-from-spec : {M : Type 1} → statement M
-search-from-spec = tie.close (tie.spec returns returns-2)
+search-from-spec = tie.close (tie.spec (λ c. search needs) (λ c. search needs) returns returns-2)

@@ -9,14 +9,14 @@ enum-told c = search needs
 returns : tie.Need-returns
 returns c =
     let read = c .before .before .before .read-trace in
-    call-refused _ (read .result) (read .ensures .answer) _ _ (c .before .outcome .given .1)
+    call-refused _ _ (read .result) (read .ensures .answer) _ _ (c .before .outcome .given .1)
 
 returns-2 : tie.Need-returns-2
 returns-2 c =
     let at-put-list = c .before .before in
     let told = at-put-list .before .before .before in
     let read = told .before .before .read-trace in
-    call-accepted _ (read .result) (read .ensures .answer) _ (told .enum-told .given .1) (at-put-list .put-list .ensures)
+    call-accepted _ _ (read .result) (read .ensures .answer) _ (told .enum-told .given .1) (at-put-list .put-list .ensures)
 
 pub list-races-spec : {M : Type 1} → statement M
 list-races-spec =

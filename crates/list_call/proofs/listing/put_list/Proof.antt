@@ -14,7 +14,7 @@ mul-needed c = omega (arith, c .before .before .list-of .ensures .most)
 returns : tie.Need-returns
 returns c =
     let made = c .before .before .before .list-of in
-    list-short _ (made .result) _ (made .ensures) _ (c .if1 .taken)
+    list-short _ _ (made .result) _ (made .ensures) _ (c .if1 .taken)
 
 array-share-prefix-pairs : tie.Need-array-share-prefix-pairs
 array-share-prefix-pairs c = c .before .before .before .list-of .ensures .within
@@ -25,13 +25,13 @@ slice-aggregate-copy c = sym (length-take-le _ _ (c .before .before .before .bef
 copy-requires : tie.Need-copy-requires
 copy-requires c κs =
     let made = c .before .before .before .before .before .list-of in
-    list-fits _ (made .result) _ (made .ensures) _ (omega arith)
+    list-fits _ _ (made .result) _ (made .ensures) _ (omega arith)
 
 returns-2 : tie.Need-returns-2
 returns-2 c =
     let copied = c .before .before in
     let made = copied .before .before .before .before .before .before .list-of in
-    list-done _ (made .result) _ (made .ensures) _ _ _ (omega arith) refl (copied .copy .ensures .1)
+    list-done _ _ (made .result) _ (made .ensures) _ _ _ (omega arith) refl (copied .copy .ensures .1)
 
 pub put-list-spec : {M : Type 1} → statement M
 put-list-spec =

@@ -21,25 +21,25 @@ use Rattle.list_pairs.proofs.pass.scan.Statement.{statement}
 use Rattle.list_pairs.proofs.pass.scan.Tie as tie
 
 abbrev Inv-loop2 : tie.InvT-loop2
-Inv-loop2 t rows list₀ uses sum₀ i a j₀ list sum j =
+Inv-loop2 t delay rows list₀ uses sum₀ i a j₀ list sum j =
     (i < j)
     × (j ≤ t .len)
-    × ((k : Kind) → countOf k sum ≡ countOf k sum₀ + length (pairsOf k (eventsOf t) i j))
-    × (list ≡ sets list₀ (2 * sum₀ .listed) (pairBytes (pairsOf listed (eventsOf t) i j)))
+    × ((k : Kind) → countOf k sum ≡ countOf k sum₀ + length (pairsOf delay k (eventsOf t) i j))
+    × (list ≡ sets list₀ (2 * sum₀ .listed) (pairBytes (pairsOf delay listed (eventsOf t) i j)))
 
 abbrev μ-loop2 : tie.MeasureT-loop2
-μ-loop2 t rows list₀ uses sum₀ i a j₀ list sum j = t .len - j
+μ-loop2 t delay rows list₀ uses sum₀ i a j₀ list sum j = t .len - j
 
 abbrev Inv-loop : tie.InvT-loop
-Inv-loop t rows list₀ uses sum₀ i₀ list sum i =
+Inv-loop t delay rows list₀ uses sum₀ i₀ list sum i =
     (i ≤ t .len)
     × (length (t .events) ≡ 256)
-    × ((k : Kind) → countOf k sum ≡ length (rowsBelow k (eventsOf t) (t .len) i))
-    × (list ≡ sets list₀ 0 (pairBytes (rowsBelow listed (eventsOf t) (t .len) i)))
+    × ((k : Kind) → countOf k sum ≡ length (rowsBelow delay k (eventsOf t) (t .len) i))
+    × (list ≡ sets list₀ 0 (pairBytes (rowsBelow delay listed (eventsOf t) (t .len) i)))
     × (length uses ≡ 256)
 
 abbrev μ-loop : tie.MeasureT-loop
-μ-loop t rows list₀ uses sum₀ i₀ list sum i = t .len - i
+μ-loop t delay rows list₀ uses sum₀ i₀ list sum i = t .len - i
 
 loop-holds : tie.Need-loop-holds Inv-loop2 μ-loop2 Inv-loop μ-loop
 loop-holds c = (omega arith, search (needs, length-mapped), c .no-counts .ensures, refl, c .before .all-uses .ensures .0)
@@ -52,8 +52,8 @@ loop2-holds c =
     let i = at-loop .loop .i in (
       omega arith,
       omega arith,
-      λ k. rw (row-start (test k es) i) (omega arith),
-      rw (row-start (test listed es) i) refl,
+      λ k. rw (row-start (test _ k es) i) (omega arith),
+      rw (row-start (test _ listed es) i) refl,
     )
 
 -- no count is more than there are pairs so far
@@ -62,7 +62,7 @@ most q k =
     let l = q .before .before .before .before .loop in
     let s = q .before .before .before .before .before .before .before .before in
     let es = eventsOf (s .args .t) in
-    omega (arith, q .loop2 .inv .2 k, l .inv .2 k, below-most k es (s .args .t .len) (l .i) (s .pre .0 .0), row-most (test k es) (l .i) (q .loop2 .j))
+    omega (arith, q .loop2 .inv .2 k, l .inv .2 k, below-most (s .args .delay) k es (s .args .t .len) (l .i) (s .pre .0 .0), row-most (test (s .args .delay) k es) (l .i) (q .loop2 .j))
 
 mul-put-listed : tie.Need-mul-put-listed Inv-loop2 μ-loop2 Inv-loop μ-loop
 mul-put-listed c =
@@ -80,9 +80,9 @@ put-listed-requires c κs =
       most q listed,
       s .pre .0,
       ap length (q .loop2 .inv .3),
-      length-sets (l .list) (2 * l .sum .listed) (pairBytes (pairsOf listed es (l .i) (q .loop2 .j))),
+      length-sets (l .list) (2 * l .sum .listed) (pairBytes (pairsOf (s .args .delay) listed es (l .i) (q .loop2 .j))),
       ap length (l .inv .3),
-      length-sets (s .args .list .now) 0 (pairBytes (rowsBelow listed es (s .args .t .len) (l .i))),
+      length-sets (s .args .list .now) 0 (pairBytes (rowsBelow (s .args .delay) listed es (s .args .t .len) (l .i))),
     )
 
 counted-requires : tie.Need-counted-requires Inv-loop2 μ-loop2 Inv-loop μ-loop
@@ -112,8 +112,8 @@ loop2-again c =
     ∙ verdict-by (eventAt es i .operation) (eventAt es (m .j) .operation) (w .ensures .2 i (omega (arith, s .pre .0))) (w .ensures .2 (m .j) (omega arith)) (v .before .is-before .result) in (
       omega arith,
       omega arith,
-      λ k. count-turn es i (m .j) (m .inv .0) before-is verdict k _ _ _ (c .counted .ensures k) (m .inv .2 k),
-      bytes-turn es i (m .j) (m .inv .0) before-is verdict _ _ _ (l .sum .listed) (m .sum .listed) (m .inv .2 listed) (m .inv .3) (at-put-listed .put-listed .ensures),
+      λ k. count-turn _ es i (m .j) (m .inv .0) before-is verdict k _ _ _ (c .counted .ensures k) (m .inv .2 k),
+      bytes-turn _ es i (m .j) (m .inv .0) before-is verdict _ _ _ (l .sum .listed) (m .sum .listed) (m .inv .2 listed) (m .inv .3) (at-put-listed .put-listed .ensures),
     )
 
 loop-again : tie.Need-loop-again Inv-loop2 μ-loop2 Inv-loop μ-loop
@@ -124,12 +124,13 @@ loop-again c =
     let l = at-loop .loop in
     let t = at-start .args .t in
     let es = eventsOf t in
+    let d = at-start .args .delay in
     let e : m .j ≡ t .len = omega arith in (
       omega arith,
       l .inv .1,
-      λ k. below-count k es (t .len) (l .i) _ _ (m .inv .2 k ∙ ap (λ (n : ℕ). countOf k (l .sum) + length (pairsOf k es (l .i) n)) e) (l .inv .2 k),
-      below-bytes es (t .len) (l .i) _ _ _ (l .sum .listed) (l .inv .2 listed) (l .inv .3)
-          (m .inv .3 ∙ ap (λ (n : ℕ). sets (l .list) (2 * l .sum .listed) (pairBytes (pairsOf listed es (l .i) n))) e),
+      λ k. below-count d k es (t .len) (l .i) _ _ (m .inv .2 k ∙ ap (λ (n : ℕ). countOf k (l .sum) + length (pairsOf d k es (l .i) n)) e) (l .inv .2 k),
+      below-bytes d es (t .len) (l .i) _ _ _ (l .sum .listed) (l .inv .2 listed) (l .inv .3)
+          (m .inv .3 ∙ ap (λ (n : ℕ). sets (l .list) (2 * l .sum .listed) (pairBytes (pairsOf d listed es (l .i) n))) e),
       l .inv .4,
     )
 
@@ -141,13 +142,14 @@ returns c =
     let s = c .before .before .before .before .before .before in
     let l = c .before .before .loop in
     let t = s .args .t in
+    let d = s .args .delay in
     let size : length (eventsOf t) ≡ t .len = length-events t (omega (arith, s .pre .0)) in
     let e : l .i ≡ t .len = omega arith in (
-      counted (eventsOf t) (l .sum)
-          (λ k. l .inv .2 k ∙ ap (λ (m : ℕ). length (rowsBelow k (eventsOf t) (t .len) m)) e ∙ ap length (all-rows k (eventsOf t) (t .len)) ∙ ap (λ (m : ℕ). length (ofKind k (eventsOf t) m)) (sym size)),
+      counted d (eventsOf t) (l .sum)
+          (λ k. l .inv .2 k ∙ ap (λ (m : ℕ). length (rowsBelow d k (eventsOf t) (t .len) m)) e ∙ ap length (all-rows d k (eventsOf t) (t .len)) ∙ ap (λ (m : ℕ). length (ofKind d k (eventsOf t) m)) (sym size)),
       l .inv .3
-          ∙ ap (λ (m : ℕ). sets (s .args .list .now) 0 (pairBytes (rowsBelow listed (eventsOf t) (t .len) m))) e
-          ∙ ap (λ (ps : List Pair). sets (s .args .list .now) 0 (pairBytes ps)) (all-rows listed (eventsOf t) (t .len) ∙ ap (ofKind listed (eventsOf t)) (sym size)),
+          ∙ ap (λ (m : ℕ). sets (s .args .list .now) 0 (pairBytes (rowsBelow d listed (eventsOf t) (t .len) m))) e
+          ∙ ap (λ (ps : List Pair). sets (s .args .list .now) 0 (pairBytes ps)) (all-rows d listed (eventsOf t) (t .len) ∙ ap (ofKind d listed (eventsOf t)) (sym size)),
     )
 
 pub scan-spec : {M : Type 1} → statement M

@@ -18,14 +18,14 @@ slice-aggregate-put-races c = sym (length-take-le _ _ (c .before .before .before
 put-races-requires : tie.Need-put-races-requires
 put-races-requires c κs =
     let made = c .before .before .before .before .list-of in
-    list-fits _ (made .result) _ (made .ensures) _ (omega (arith, made .ensures .most))
+    list-fits _ _ (made .result) _ (made .ensures) _ (omega (arith, made .ensures .most))
 
 returns : tie.Need-returns
 returns c =
     let counts = c .before .before in
     let races = counts .before .before .before .before in
     let made = races .before .before .before .before .before .list-of in
-    list-put _ (made .result) _ (made .ensures) (put-then (races .put-races .ensures .0) (counts .put-counts .ensures))
+    list-put _ _ (made .result) _ (made .ensures) (put-then (races .put-races .ensures .0) (counts .put-counts .ensures))
 
 pub put-listing-spec : {M : Type 1} → statement M
 put-listing-spec =

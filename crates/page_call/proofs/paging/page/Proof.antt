@@ -6,19 +6,19 @@ use Rattle.page_call.proofs.paging.page.Tie as tie
 put-page-requires : tie.Need-put-page-requires
 put-page-requires c κs =
     let read = c .before .before .before .before .read-trace in
-    ranged _ (read .result) (read .ensures .answer) (read .ensures .few) (c .before .before .enum-told .given .1)
+    ranged _ _ (read .result) (read .ensures .answer) (read .ensures .few) (c .before .before .enum-told .given .1)
 
 returns : tie.Need-returns
 returns c =
     let read = c .before .before .before .read-trace in
-    call-refused _ (read .result) (read .ensures .answer) _ _ (c .before .outcome .given .1)
+    call-refused _ _ (read .result) (read .ensures .answer) _ _ (c .before .outcome .given .1)
 
 returns-2 : tie.Need-returns-2
 returns-2 c =
     let at-put-page = c .before .before in
     let told = at-put-page .before .before .before in
     let read = told .before .before .read-trace in
-    call-accepted _ (read .result) (read .ensures .answer) _ (told .enum-told .given .1) (at-put-page .put-page .ensures)
+    call-accepted _ _ (read .result) (read .ensures .answer) _ (told .enum-told .given .1) (at-put-page .put-page .ensures)
 
 pub page-spec : {M : Type 1} → statement M
 page-spec =

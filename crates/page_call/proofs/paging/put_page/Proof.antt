@@ -14,7 +14,7 @@ returns c =
     let list = c .before .before .before in
     let start = list .before .before .before .before in
     let made = list .list-of in
-    page-short _ (made .result) _ (made .ensures) (events-most (start .args .t) (start .pre .few)) (start .pre .range) _ (c .if1 .taken)
+    page-short _ _ (made .result) _ (made .ensures) (events-most (start .args .t) (start .pre .few)) (start .pre .range) _ (c .if1 .taken)
 
 slice-aggregate-put-pairs : tie.Need-slice-aggregate-put-pairs
 slice-aggregate-put-pairs c = sym (length-take-le _ _ (c .before .before .before .before .before .before .list-of .ensures .within))
@@ -24,7 +24,7 @@ put-pairs-requires c κs =
     let list = c .before .before .before .before .before .before in
     let start = list .before .before .before .before in
     let made = list .list-of in
-    ((start .pre .few, list-fits _ (made .result) _ (made .ensures) 131072 (omega (arith, made .ensures .most))), (list-inside (start .args .t) _ (list-is _ (made .result) _ (made .ensures)), start .pre .range))
+    ((start .pre .few, list-fits _ _ (made .result) _ (made .ensures) 131072 (omega (arith, made .ensures .most))), (list-inside _ (start .args .t) _ (list-is _ _ (made .result) _ (made .ensures)), start .pre .range))
 
 returns-2 : tie.Need-returns-2
 returns-2 c =
@@ -33,7 +33,7 @@ returns-2 c =
     let list = pairs .before .before .before .before .before .before .before in
     let start = list .before .before .before .before in
     let made = list .list-of in
-    page-done _ (made .result) _ (made .ensures) (events-most (start .args .t) (start .pre .few)) (start .pre .range) _ (omega arith) (pairs .put-pairs .ensures .0) (counts .put-counts .ensures)
+    page-done _ _ (made .result) _ (made .ensures) (events-most (start .args .t) (start .pre .few)) (start .pre .range) _ (omega (arith, pairs .before .before .before .before .if1 .left)) (pairs .put-pairs .ensures .0) (counts .put-counts .ensures)
 
 pub put-page-spec : {M : Type 1} → statement M
 put-page-spec =

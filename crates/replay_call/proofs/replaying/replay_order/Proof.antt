@@ -22,31 +22,31 @@ check-order-requires : tie.Need-check-order-requires
 check-order-requires c κs =
     let at-rows = c .before in
     let s = at-rows .before .before .before .before in
-    (s .pre .0, λ i j e. omega (arith, size s, rows-inside (eventsOf (s .args .t)) (at-rows .happens-before .result) (at-rows .happens-before .ensures) i j e))
+    (s .pre .0, λ i j e. omega (arith, size s, rows-inside _ (eventsOf (s .args .t)) (at-rows .happens-before .result) (at-rows .happens-before .ensures) i j e))
 
 -- the check by the rows is that of the events
 checked : (f : tie.After-check-order) → let s = f .before .before .before .before .before .before in
-    outcomeOf (f .check-order .result) tt ≡ checkOrder (eventsOf (s .args .t)) (now (s .args .order))
+    outcomeOf (f .check-order .result) tt ≡ checkOrder (s .args .delay) (eventsOf (s .args .t)) (now (s .args .order))
 checked f =
     let at-rows = f .before .before in
     let s = at-rows .before .before .before .before in
     f .check-order .ensures ∙ ap (λ n. checkBy (bit (at-rows .happens-before .result)) n (now (s .args .order))) (sym (size s))
-    ∙ check-rows (eventsOf (s .args .t)) (at-rows .happens-before .result) (at-rows .happens-before .ensures) (now (s .args .order))
+    ∙ check-rows _ (eventsOf (s .args .t)) (at-rows .happens-before .result) (at-rows .happens-before .ensures) (now (s .args .order))
 
 run-order-requires : tie.Need-run-order-requires
 run-order-requires c κs =
     let at-arm = c .before .before in
     let at-check = at-arm .before .before in
     let s = at-check .before .before .before .before .before .before in
-    (s .pre .0, s .pre .1, s .pre .2, order-short (eventsOf (s .args .t)) (now (s .args .order)) (events-few (s .args .t) (s .pre .0)) (outcome-accepted tt (at-arm .enum-told .given .1) (checked at-check)))
+    (s .pre .0, s .pre .1, s .pre .2, order-short _ (eventsOf (s .args .t)) (now (s .args .order)) (events-few (s .args .t) (s .pre .0)) (outcome-accepted tt (at-arm .enum-told .given .1) (checked at-check)))
 
 returns : tie.Need-returns
-returns c = order-refused _ _ _ _ _ (outcome-refused tt (c .before .outcome .given .1) (checked (c .before .before .before)))
+returns c = order-refused _ _ _ _ _ _ (outcome-refused tt (c .before .outcome .given .1) (checked (c .before .before .before)))
 
 returns-2 : tie.Need-returns-2
 returns-2 c =
     let at-arm = c .before .before .before .before .before .before .before in
-    order-accepted _ _ _ _ _ (outcome-accepted tt (at-arm .enum-told .given .1) (checked (at-arm .before .before))) (c .before .before .before .before .run-order .ensures)
+    order-accepted _ _ _ _ _ _ (outcome-accepted tt (at-arm .enum-told .given .1) (checked (at-arm .before .before))) (c .before .before .before .before .run-order .ensures)
 
 pub replay-order-spec : {M : Type 1} → statement M
 replay-order-spec =

@@ -8,4 +8,4 @@ unfolding sideOf
 returns c = cc
 
 pub side-of-spec : {M : Type 1} → statement M
-side-of-spec = tie.close (tie.spec (λ c κs. search needs) (λ c κs. search needs) (λ c κs. search needs) returns)
+side-of-spec = tie.close (tie.spec (λ c κs. search needs) (λ c κs. search needs) (λ c κs. search needs) (λ c κs. search needs) returns)

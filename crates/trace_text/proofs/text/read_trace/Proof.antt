@@ -9,16 +9,16 @@ read-events-requires : tie.Need-read-events-requires
 read-events-requires c κs = limit-within _ (sym (c .before .before .limit-of .ensures) ∙ c .enum-told4 .given .1) .few
 
 returns : tie.Need-returns
-returns c = limited _ (c .before .before .before .limit-of .ensures) (c .before .enum-told .given .1) (c .refused .ensures)
+returns c = limited _ _ (c .before .before .before .limit-of .ensures) (c .before .enum-told .given .1) (c .refused .ensures)
 
 returns-2 : tie.Need-returns-2
-returns-2 c = limited _ (c .before .before .before .limit-of .ensures) (c .before .enum-told2 .given .1) (c .refused2 .ensures)
+returns-2 c = limited _ _ (c .before .before .before .limit-of .ensures) (c .before .enum-told2 .given .1) (c .refused2 .ensures)
 
 returns-3 : tie.Need-returns-3
-returns-3 c = limited _ (c .before .before .before .limit-of .ensures) (c .before .enum-told3 .given .1) (c .refused3 .ensures)
+returns-3 c = limited _ _ (c .before .before .before .limit-of .ensures) (c .before .enum-told3 .given .1) (c .refused3 .ensures)
 
 returns-4 : tie.Need-returns-4
-returns-4 c = limited _ (c .before .before .before .limit-of .ensures) (c .before .enum-told4 .given .1) (c .read-events .ensures)
+returns-4 c = limited _ _ (c .before .before .before .limit-of .ensures) (c .before .enum-told4 .given .1) (c .read-events .ensures)
 
 pub read-trace-spec : {M : Type 1} → statement M
 read-trace-spec =

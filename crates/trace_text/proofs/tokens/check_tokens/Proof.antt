@@ -11,7 +11,8 @@ use Rattle.basics.proofs.Arrays.{length-mapped}
 use Rattle.trace_text.specs.Types.{Refusal}
 use Rattle.basics.specs.Searches.{lowest}
 use Rattle.trace_text.specs.TraceText.{putsOut, twice, takenEarly}
-use Rattle.trace_text.proofs.TokenChecks.{puts-none, puts-more, outsIn, twice-test, early-test, placed, placed-more, tokens-checked}
+use Rattle.refusals.proofs.Checks.{placed}
+use Rattle.trace_text.proofs.TokenChecks.{puts-none, puts-more, outsIn, twice-test, early-test, placed-more, tokens-checked}
 use Rattle.trace_text.proofs.tokens.check_tokens.Statement.{statement}
 use Rattle.trace_text.proofs.tokens.check_tokens.Tie as tie
 

@@ -10,14 +10,14 @@ returns c =
     let at-run = at-same .before in
     let at-arm = at-run .before in
     let at-check = at-arm .before .before in
-    λ es rs ready. rw (c .if1 .taken) at (order-ended es rs _ _ _ _ _ _ _ _ ready _ (at-check .check-order .result) (at-check .check-order .ensures) (at-arm .enum-told2 .given .1)
+    λ delay es rs ready. rw (c .if1 .taken) at (order-ended delay es rs _ _ _ _ _ _ _ _ ready _ (at-check .check-order .result) (at-check .check-order .ensures) (at-arm .enum-told2 .given .1)
     (at-run .run .result) (at-run .run .ensures .1 es (ready .start .slots) (ready .start .steps) (ready .start .inside)) (at-same .same .ensures))
 
 -- an order that is refused
 returns-2 : tie.Need-returns-2
 returns-2 c =
     let at-check = c .before .before in
-    λ es rs ready. order-refused es rs _ _ _ _ _ _ _ _ ready _ (at-check .check-order .result) (at-check .check-order .ensures) (c .enum-told .given .1)
+    λ delay es rs ready. order-refused delay es rs _ _ _ _ _ _ _ _ ready _ (at-check .check-order .result) (at-check .check-order .ensures) (c .enum-told .given .1)
 
 -- one that ends otherwise
 returns-3 : tie.Need-returns-3
@@ -26,7 +26,7 @@ returns-3 c =
     let at-run = at-same .before in
     let at-arm = at-run .before in
     let at-check = at-arm .before .before in
-    λ es rs ready. rw (c .if1 .left) at (order-ended es rs _ _ _ _ _ _ _ _ ready _ (at-check .check-order .result) (at-check .check-order .ensures) (at-arm .enum-told2 .given .1)
+    λ delay es rs ready. rw (c .if1 .left) at (order-ended delay es rs _ _ _ _ _ _ _ _ ready _ (at-check .check-order .result) (at-check .check-order .ensures) (at-arm .enum-told2 .given .1)
     (at-run .run .result) (at-run .run .ensures .1 es (ready .start .slots) (ready .start .steps) (ready .start .inside)) (at-same .same .ensures))
 
 pub trial-spec : {M : Type 1} → statement M

@@ -43,7 +43,7 @@ try-each-requires c κs =
     let a = at-recorded .before .before .before in
     let s = entered a in
     let made = at-recorded .recorded-order in (
-      sound _ _ _ (size s) _ _ _ _ _ _ (a .before .before .before .before .before .happens-before .ensures) (shared a) (s .pre .0),
+      sound _ _ _ _ (size s) _ _ _ _ _ _ (a .before .before .before .before .before .happens-before .ensures) (shared a) (s .pre .0),
       recorded-prefix (made .result) (made .ensures .0) (made .ensures .1) (s .args .t .len) (s .pre .0),
       s .pre .3,
       s .pre .4,
@@ -55,7 +55,7 @@ returns c =
     let at-each = c .before .before in
     let a = at-each .before .before .before .before .before .before .before .before .before .before in
     let s = entered a in
-    at-each .try-each .ensures _ _ (from-rows _ _ _ (size s) _ _ _ _ _ _ (a .before .before .before .before .before .happens-before .ensures) (shared a) (s .pre .2))
+    at-each .try-each .ensures _ _ _ (from-rows _ _ _ _ (size s) _ _ _ _ _ _ (a .before .before .before .before .before .happens-before .ensures) (shared a) (s .pre .2))
 
 pub try-all-spec : {M : Type 1} → statement M
 try-all-spec =

@@ -1,5 +1,5 @@
 -- The invariant: the bytes of the orders before k are written, the others are as they were.
-use Prim.Native.Nat.{_+_, _-_, _*_, _^_, _≤_, _<_}
+use Prim.Native.Nat.{ℕ, _+_, _-_, _*_, _^_, _≤_, _<_}
 use native.Mathlib.Omega.{arith}
 use mathlib.Core.Path.{_≡_, refl, ap, _∙_}
 use mathlib.Core.List.{List}
@@ -19,7 +19,7 @@ use Rattle.trials_call.proofs.trying.try_each.Tie as tie
 abbrev Inv-loop : tie.InvT-loop
 Inv-loop n earlier masks plans priorities set codes recorded orders m out₀ end k₀ out k =
     (k ≤ m) × (length out ≡ length out₀)
-    × ((es : List Event) (rs : List Row) → Ready es rs n earlier masks plans priorities set codes end → out ≡ filled (λ j. orderByte es (tablesOf rs) (orderAt n orders j)) out₀ k)
+    × ((delay : ℕ) (es : List Event) (rs : List Row) → Ready delay es rs n earlier masks plans priorities set codes end → out ≡ filled (λ j. orderByte delay es (tablesOf rs) (orderAt n orders j)) out₀ k)
 
 abbrev μ-loop : tie.MeasureT-loop
 μ-loop n earlier masks plans priorities set codes recorded orders m out₀ end k₀ out k = m - k
@@ -39,7 +39,7 @@ ends a =
     order-ends (s .args .n) (now (s .args .orders)) (s .pre .2) (a .before .loop .k) (omega (arith, a .loop-test .taken, s .pre .3))
 
 loop-holds : tie.Need-loop-holds Inv-loop μ-loop
-loop-holds c = (omega arith, refl, λ es rs ready. refl)
+loop-holds c = (omega arith, refl, λ delay es rs ready. refl)
 
 mul-from : tie.Need-mul-from Inv-loop μ-loop
 mul-from c = omega (arith, ends c, fits c)
@@ -68,8 +68,8 @@ loop-again c =
     let l = a .before .loop in (
       omega (arith, a .loop-test .taken),
       simp length-set (l .inv .1),
-      λ es rs ready. fill-turn (λ j. orderByte es (tablesOf rs) (orderAt (s .args .n) (now (s .args .orders)) j)) (now (s .args .out)) (l .out) (l .k) (c .trial .result) (omega (arith, a .loop-test .taken, s .pre .3))
-          (l .inv .2 es rs ready) (c .trial .ensures es rs ready ∙ ap (orderByte es (tablesOf rs)) (order-part (s .args .n) (now (s .args .orders)) (l .k))),
+      λ delay es rs ready. fill-turn (λ j. orderByte delay es (tablesOf rs) (orderAt (s .args .n) (now (s .args .orders)) j)) (now (s .args .out)) (l .out) (l .k) (c .trial .result) (omega (arith, a .loop-test .taken, s .pre .3))
+          (l .inv .2 delay es rs ready) (c .trial .ensures delay es rs ready ∙ ap (orderByte delay es (tablesOf rs)) (order-part (s .args .n) (now (s .args .orders)) (l .k))),
     )
 
 same-length : tie.Need-same-length Inv-loop μ-loop
@@ -80,9 +80,9 @@ returns c =
     let l = c .before .loop in
     let at-run = c .before .before in
     let s = at-run .before .before .before .before in
-    λ es rs f.
-    all-filled es (tablesOf rs) (now (s .args .orders)) (now (s .args .out)) (f .count) (s .pre .3) (l .k) (omega (arith, c .loop-test .left, l .inv .0))
-    (l .inv .2 es rs (recorded-ends es rs _ _ _ _ _ _ _ _ f (s .pre .1 ∙ ap (from 0) (f .count)) (at-run .run .ensures .1 es (f .slots) (f .steps) (f .inside))))
+    λ delay es rs f.
+    all-filled delay es (tablesOf rs) (now (s .args .orders)) (now (s .args .out)) (f .count) (s .pre .3) (l .k) (omega (arith, c .loop-test .left, l .inv .0))
+    (l .inv .2 delay es rs (recorded-ends delay es rs _ _ _ _ _ _ _ _ f (s .pre .1 ∙ ap (from 0) (f .count)) (at-run .run .ensures .1 es (f .slots) (f .steps) (f .inside))))
 
 pub try-each-spec : {M : Type 1} → statement M
 try-each-spec =

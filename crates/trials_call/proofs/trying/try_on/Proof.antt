@@ -18,13 +18,13 @@ size s = let n : length (s .args .t .events) ≡ 256 = search (needs, length-map
 returns : tie.Need-returns
 returns c =
     let s = c .before .before .before .before in
-    lengths-uneven (eventsOf (s .args .t)) (tablesOf (rowsOf (s .args .start))) (now (s .args .orders)) (now (s .args .out)) (size s) (was (c .before .is-uneven .ensures) (c .if1 .taken))
+    lengths-uneven _ (eventsOf (s .args .t)) (tablesOf (rowsOf (s .args .start))) (now (s .args .orders)) (now (s .args .out)) (size s) (was (c .before .is-uneven .ensures) (c .if1 .taken))
 
 returns-2 : tie.Need-returns-2
 returns-2 c =
     let at-if = c .before .before in
     let s = at-if .before .before .before .before in
-    bytes-short (eventsOf (s .args .t)) (tablesOf (rowsOf (s .args .start))) (now (s .args .orders)) (now (s .args .out)) (size s) (was (at-if .before .is-uneven .ensures) (at-if .if1 .left))
+    bytes-short _ (eventsOf (s .args .t)) (tablesOf (rowsOf (s .args .start))) (now (s .args .orders)) (now (s .args .out)) (size s) (was (at-if .before .is-uneven .ensures) (at-if .if1 .left))
     (c .before .order-count .ensures) (c .if2 .taken)
 
 try-all-requires : tie.Need-try-all-requires
@@ -40,7 +40,7 @@ returns-3 c =
     let at-fit = at-all .before .before in
     let at-if = at-fit .before .before in
     let s = at-if .before .before .before .before in
-    bytes-written (eventsOf (s .args .t)) (tablesOf (rowsOf (s .args .start))) (now (s .args .orders)) (now (s .args .out)) (size s) (was (at-if .before .is-uneven .ensures) (at-if .if1 .left))
+    bytes-written _ (eventsOf (s .args .t)) (tablesOf (rowsOf (s .args .start))) (now (s .args .orders)) (now (s .args .out)) (size s) (was (at-if .before .is-uneven .ensures) (at-if .if1 .left))
     (at-fit .before .order-count .ensures) (omega (arith, at-fit .if2 .left)) (at-all .try-all .ensures)
 
 pub try-on-spec : {M : Type 1} → statement M

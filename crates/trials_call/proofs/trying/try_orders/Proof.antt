@@ -21,20 +21,20 @@ readAs p = (eventsOf (p .read-both .result .trace), rowsOf (p .read-both .result
 abbrev start : tie.After-read-both → tie.Start
 start p = p .before .before .before .before .before
 
-accepted : (c : tie.After-enum-told) → let p = c .before .before in inr (readAs p) ≡ readBoth (now (start p .args .trace)) (now (start p .args .tables))
+accepted : (c : tie.After-enum-told) → let p = c .before .before in inr (readAs p) ≡ readBoth (start p .args .delay) (now (start p .args .trace)) (now (start p .args .tables))
 accepted c = let p = c .before .before in outcome-accepted (readAs p) (c .enum-told .given .1) (p .read-both .ensures .0)
 
 try-on-requires : tie.Need-try-on-requires
 try-on-requires c κs =
     let at-arm = c .before .before .before in
     let at-read = at-arm .before .before in
-    (at-read .read-both .ensures .1, at-read .read-both .ensures .2, held _ _ _ _ (accepted at-arm))
+    (at-read .read-both .ensures .1, at-read .read-both .ensures .2, held _ _ _ _ _ (accepted at-arm))
 
 returns : tie.Need-returns
 returns c =
     let at-read = c .before .before .before in
     let a = start at-read .args in
-    let left = texts-refused (now (a .trace)) (now (a .tables)) (now (a .orders)) (length (now (a .out))) (outcome-refused (readAs at-read) (c .before .outcome .given .1) (at-read .read-both .ensures .0)) in
+    let left = texts-refused _ (now (a .trace)) (now (a .tables)) (now (a .orders)) (length (now (a .out))) (outcome-refused (readAs at-read) (c .before .outcome .given .1) (at-read .read-both .ensures .0)) in
     (left .answer, left .bytes)
 
 returns-2 : tie.Need-returns-2
@@ -42,7 +42,7 @@ returns-2 c =
     let at-try = c .before .before in
     let at-arm = at-try .before .before .before .before in
     let a = start (at-arm .before .before) .args in
-    let left = texts-accepted (now (a .trace)) (now (a .tables)) (now (a .orders)) (length (now (a .out))) _ _ (accepted at-arm) (at-try .try-on .ensures) in
+    let left = texts-accepted _ (now (a .trace)) (now (a .tables)) (now (a .orders)) (length (now (a .out))) _ _ (accepted at-arm) (at-try .try-on .ensures) in
     (left .answer, left .bytes)
 
 pub try-orders-spec : {M : Type 1} → statement M

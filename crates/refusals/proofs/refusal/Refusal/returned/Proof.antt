@@ -6,7 +6,7 @@ use Rattle.refusals.proofs.refusal.Refusal.returned.Tie as tie
 pub returned-spec : {M : Type 1} → statement M
 returned-spec =
     tie.close
-    (tie.spec (λ c. search needs) (λ c κs. search needs) (λ c. search needs) (λ c κs. search needs) (λ c. search needs) (λ c κs. search needs) (λ c. search needs) (λ c κs. search needs) (λ c. search needs) (λ c κs. search needs) (λ c. search needs) (λ c κs. search needs) (λ c. search needs) (λ c κs. search needs) (λ c. search needs) (λ c κs. search needs) (λ c. search needs) (λ c κs. search needs) (λ c. search needs) (λ c κs. search needs) (λ c. search needs) (λ c κs. search needs) (λ c. search needs) (λ c κs. search needs) (λ c. search needs) (λ c κs. search needs) (λ c. search needs) (λ c κs. search needs) (λ c. search needs) (λ c κs. search needs) (λ c. search needs) (λ c κs. search needs) (λ c. search needs) (λ c κs. search needs) (λ c. search needs) (λ c κs. search needs) (λ c. search needs) (λ c κs. search needs) (λ c. search needs) (λ c κs. search needs) (λ c. search needs) (λ c κs. search needs) (λ c. search needs) (λ c κs. search needs)
+    (tie.spec (λ c. search needs) (λ c κs. search needs) (λ c. search needs) (λ c κs. search needs) (λ c. search needs) (λ c κs. search needs) (λ c. search needs) (λ c κs. search needs) (λ c. search needs) (λ c κs. search needs) (λ c. search needs) (λ c κs. search needs) (λ c. search needs) (λ c κs. search needs) (λ c. search needs) (λ c κs. search needs) (λ c. search needs) (λ c κs. search needs) (λ c. search needs) (λ c κs. search needs) (λ c. search needs) (λ c κs. search needs) (λ c. search needs) (λ c κs. search needs) (λ c. search needs) (λ c κs. search needs) (λ c. search needs) (λ c κs. search needs) (λ c. search needs) (λ c κs. search needs) (λ c. search needs) (λ c κs. search needs) (λ c. search needs) (λ c κs. search needs) (λ c. search needs) (λ c κs. search needs) (λ c. search needs) (λ c κs. search needs) (λ c. search needs) (λ c κs. search needs) (λ c. search needs) (λ c κs. search needs) (λ c. search needs) (λ c κs. search needs) (λ c. search needs) (λ c κs. search needs) (λ c. search needs) (λ c κs. search needs)
     (λ c. in-arm (c .before .enum-told .given .1) (c .row .ensures))
     (λ c. in-arm (c .before .enum-told2 .given .1) (c .row2 .ensures))
     (λ c. in-arm (c .before .enum-told3 .given .1) (c .row3 .ensures))
@@ -28,4 +28,6 @@ returned-spec =
     (λ c. in-arm (c .before .before .self12 .given .1) (c .row19 .ensures))
     (λ c. in-arm (c .before .before .self13 .given .1) (c .row20 .ensures))
     (λ c. in-arm (c .before .enum-told8 .given .1) (c .row21 .ensures))
-    (λ c. in-arm (c .before .before .self14 .given .1) (c .row22 .ensures)))
+    (λ c. in-arm (c .before .before .self14 .given .1) (c .row22 .ensures))
+    (λ c. in-arm (c .before .before .self15 .given .1) (c .row23 .ensures))
+    (λ c. in-arm (c .before .before .self16 .given .1) (c .row24 .ensures)))

@@ -1,5 +1,5 @@
-use Rattle.trace_text.proofs.tokens.refused_if.Statement.{statement}
-use Rattle.trace_text.proofs.tokens.refused_if.Tie as tie
+use Rattle.refusals.proofs.refusal.refused_if.Statement.{statement}
+use Rattle.refusals.proofs.refusal.refused_if.Tie as tie
 
 returns : tie.Need-returns
 returns c = rw (c .if1 .taken)

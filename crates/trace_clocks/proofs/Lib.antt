@@ -1,0 +1,3 @@
+pub mod EarliestLaws
+pub mod PassLaws
+pub mod Meaning

@@ -1,0 +1,3 @@
+pub mod Types
+pub mod Backward
+pub mod Inner

@@ -1,7 +1,8 @@
-//! The calls. Buffers are made once for each row and are not cleared between calls.
+//! The calls, at the delay of the programs. Buffers are made once for each row and are not cleared between calls.
 
 use crate::rows::{Input, Row};
 use crate::turns;
+use gellunka::DEFAULT_DELAY as DELAY;
 use std::fmt::Debug;
 use std::hint::black_box;
 
@@ -28,8 +29,18 @@ pub fn compare(row: &Row) {
 /// The call of the proved library and that of the peer.
 pub fn sides(input: &Input) -> [Call<'_>; 2] {
     match input {
-        Input::List(trace) => one_text(trace, 65_280, gellunka::list_races, reference::list),
-        Input::Page(trace) => one_text(trace, reference::PAGE_ROOM, gellunka::page, reference::page),
+        Input::List(trace) => one_text(
+            trace,
+            65_280,
+            |trace, out| gellunka::list_races(trace, DELAY, out),
+            |trace, out| reference::list(trace, DELAY, out),
+        ),
+        Input::Page(trace) => one_text(
+            trace,
+            reference::PAGE_ROOM,
+            |trace, out| gellunka::page(trace, DELAY, out),
+            |trace, out| reference::page(trace, DELAY, out),
+        ),
         Input::Share(trace) => share(trace),
         Input::Normalise(tables) => one_text(tables, 65_535, gellunka::normalise, reference::normalise),
         Input::Replay(trace, tables) => replay(trace, tables),
@@ -53,8 +64,8 @@ fn one_text<'a, T: 'a, U: 'a>(
 
 fn share(trace: &[u8]) -> [Call<'_>; 2] {
     [
-        Box::new(move || used(gellunka::share(black_box(trace)))),
-        Box::new(move || used(reference::share(black_box(trace)))),
+        Box::new(move || used(gellunka::share(black_box(trace), DELAY))),
+        Box::new(move || used(reference::share(black_box(trace), DELAY))),
     ]
 }
 
@@ -64,9 +75,18 @@ fn replay<'a>(trace: &'a [u8], tables: &'a [u8]) -> [Call<'a>; 2] {
     let [mut end, mut their_end] = [(); 2].map(|()| vec![0; 58_880]);
     let [mut answers, mut their_answers] = [(); 2].map(|()| vec![0; 7_168]);
     [
-        Box::new(move || used(gellunka::replay(black_box(trace), tables, &order, &mut end, &mut answers))),
         Box::new(move || {
-            used(reference::replay(black_box(trace), tables, &same, &mut their_end, &mut their_answers));
+            used(gellunka::replay(black_box(trace), tables, &order, DELAY, &mut end, &mut answers));
+        }),
+        Box::new(move || {
+            used(reference::replay(
+                black_box(trace),
+                tables,
+                &same,
+                DELAY,
+                &mut their_end,
+                &mut their_answers,
+            ));
         }),
     ]
 }
@@ -75,8 +95,10 @@ fn try_orders<'a>(trace: &'a [u8], tables: &'a [u8], orders: &'a [u8]) -> [Call<
     // Longer than any of these needs.
     let (mut out, mut their_out) = (vec![gellunka::Trial::Refused; 1_000], vec![0; 1_000]);
     [
-        Box::new(move || used(gellunka::try_orders(black_box(trace), tables, orders, &mut out))),
-        Box::new(move || used(reference::try_orders(black_box(trace), tables, orders, &mut their_out))),
+        Box::new(move || used(gellunka::try_orders(black_box(trace), tables, orders, DELAY, &mut out))),
+        Box::new(move || {
+            used(reference::try_orders(black_box(trace), tables, orders, DELAY, &mut their_out))
+        }),
     ]
 }
 

@@ -3,6 +3,7 @@
 use cases::orders::{accepted_orders, shuffled_orders};
 use cases::print::trace_text;
 use cases::{tables, traces, Random};
+use gellunka::DEFAULT_DELAY as DELAY;
 use reference::happens_before;
 use reference::table::Origin::{Received, SentOut};
 
@@ -79,6 +80,8 @@ pub fn rows() -> Vec<Row> {
         share("256 adds of one key: 32,640 pairs listed", traces::all_racing()),
         share("256 adds, different keys: 32,640 pairs commute", traces::long_adds()),
         share("256 mixed events, 1 switch", trace_text(&traces::mixed(1))),
+        list("256 adds of one key, all ordered by clocks", traces::clock_chain(DELAY)),
+        list("256 `msg` whose times fall by the delay", traces::falling_clocks(DELAY)),
     ]
 }
 
@@ -91,6 +94,6 @@ fn adds(name: &'static str, tables: Vec<u8>) -> Row {
 /// Random orders of events of all words that keep happens-before, and so are accepted.
 fn mixed(name: &'static str, switches: usize, lines: usize, orders: usize) -> Row {
     let events = traces::mixed(switches);
-    let orders = accepted_orders(&mut Random::from_seed(2), &happens_before(&events), orders);
+    let orders = accepted_orders(&mut Random::from_seed(2), &happens_before(&events, DELAY), orders);
     Row { name, input: Input::Orders(trace_text(&events), tables::mixed(switches, lines), orders) }
 }

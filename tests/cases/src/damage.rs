@@ -17,13 +17,14 @@ pub fn damaged(random: &mut Random, text: &[u8]) -> Vec<u8> {
 }
 
 fn one_fault(random: &mut Random, text: &[u8]) -> Vec<u8> {
-    match random.below(20) {
+    match random.below(25) {
         0 => whole_text(random, text),
         1 | 2 => any_byte(random, text),
         3 | 4 => lines_moved(random, text),
         5 => last_byte(random, text),
         6..=8 => prefix_bit(random, text),
         9..=15 => token(random, text),
+        20..=24 => clock(random, text),
         _ => value(random, text),
     }
 }
@@ -139,9 +140,44 @@ fn token(random: &mut Random, text: &[u8]) -> Vec<u8> {
     damaged
 }
 
+/// The range of a line's clock reversed, far from those of other lines, malformed or not there.
+fn clock(random: &mut Random, text: &[u8]) -> Vec<u8> {
+    const CLOCKS: [&str; 16] = [
+        // Alone, or before and behind all others.
+        " from=0 to=0",
+        " from=0 to=4294967295",
+        " from=4294967295 to=4294967295",
+        " from=4294967295 to=4294967295",
+        " from=4294967294 to=4294967295",
+        " from=2001 to=4294967295",
+        " from=2000 to=2000",
+        // Reversed.
+        " from=1 to=0",
+        " from=4294967295 to=4294967294",
+        " from=4294967295 to=0",
+        // Malformed.
+        "",
+        " from=0",
+        " to=0",
+        " to=0 from=0",
+        " from=00 to=0",
+        " from=0 to=4294967296",
+    ];
+    let clocks = places(text, |at| text[at..].starts_with(b" from="));
+    let Some(at) = pick_place(random, &clocks) else { return text.to_vec() };
+    let ends = |byte: &u8| *byte == b' ' || *byte == b'\n';
+    let start = text[at + 1..].iter().position(ends).map_or(text.len(), |n| at + 1 + n);
+    let has_to = text[start..].starts_with(b" to=");
+    let end =
+        if has_to { text[start + 1..].iter().position(ends).map(|n| start + 1 + n) } else { Some(start) };
+    let mut damaged = text.to_vec();
+    damaged.splice(at..end.unwrap_or(text.len()), random.pick(&CLOCKS).bytes());
+    damaged
+}
+
 /// The value of an item replaced by one at a limit, past it, or of a wrong form.
 fn value(random: &mut Random, text: &[u8]) -> Vec<u8> {
-    const VALUES: [&str; 32] = [
+    const VALUES: [&str; 33] = [
         "",
         "0",
         "00",
@@ -158,6 +194,7 @@ fn value(random: &mut Random, text: &[u8]) -> Vec<u8> {
         "65535",
         "65536",
         "99999",
+        "4294967295",
         "4294967296",
         "18446744073709551616",
         "-",

@@ -3,9 +3,11 @@
 //!
 //! - [`World`]: where the values of matches, packets, priorities and actions come from.
 //! - [`traces`], [`tables`]: valid texts, and the worst cases of the benchmark.
+//! - [`clocks`]: when the events of a trace were, and delays.
 //! - [`damage`]: faults put into a text, one or several that compete.
 //! - [`orders`]: all orders of few events, random allowed ones, damaged ones; many end to end.
 
+pub mod clocks;
 pub mod damage;
 pub mod orders;
 pub mod print;

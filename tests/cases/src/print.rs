@@ -3,7 +3,7 @@
 use reference::flow::{Entry, Packet};
 use reference::table::TableOperation;
 use reference::tables::{EntryItems, MatchItems};
-use reference::trace::{Event, Operation};
+use reference::trace::{Clock, Event, Operation};
 
 /// The text of a trace of some events.
 pub fn trace_text(events: &[Event]) -> Vec<u8> {
@@ -25,8 +25,9 @@ pub fn entry_line(switch: u8, entry: Entry) -> String {
 /// The line of an event, without its LF.
 pub fn event_line(number: usize, event: &Event) -> String {
     let (taken, put) = (tokens(&event.taken), tokens(&event.put));
+    let Clock { from, to } = event.clock;
     let (word, items) = operation_items(&event.operation);
-    format!("ev={number} do={word} in={taken} out={put}{items}")
+    format!("ev={number} do={word} in={taken} out={put} from={from} to={to}{items}")
 }
 
 fn tokens(tokens: &[u16]) -> String {
@@ -36,7 +37,7 @@ fn tokens(tokens: &[u16]) -> String {
     tokens.iter().map(u16::to_string).collect::<Vec<_>>().join(",")
 }
 
-/// The word of an operation, and the items after `out`.
+/// The word of an operation, and the items after `to`.
 fn operation_items(operation: &Operation) -> (&'static str, String) {
     match operation {
         Operation::Other => ("oth", String::new()),

@@ -1,11 +1,12 @@
 //! Valid traces, random ones and worst cases.
 
+use crate::clocks::any_clocks;
 use crate::print::trace_text;
 use crate::tables::{fitting_entry, long_entry, FITTING_PACKET, LONG_SWITCH};
 use crate::{Random, World};
 use reference::flow::{Action, Entry, Key, Match, Packet};
 use reference::table::{Origin, TableOperation};
-use reference::trace::{Event, Operation};
+use reference::trace::{Clock, Event, Operation};
 
 /// How many events a random trace has: mostly few, sometimes as many as there may be.
 pub fn any_length(random: &mut Random) -> usize {
@@ -17,9 +18,16 @@ pub fn any_length(random: &mut Random) -> usize {
     }
 }
 
-/// The events of a random valid trace. Tokens are passed on to later lines; some are taken more than
-/// once, some never, and some are taken that were never put out.
+/// The events of a random trace that is accepted at every delay, half of the time with clocks.
 pub fn any_trace(random: &mut Random, world: World, length: usize) -> Vec<Event> {
+    let mut events = any_untimed(random, world, length);
+    any_clocks(random, &mut events);
+    events
+}
+
+/// The events of a random valid trace without clocks. Tokens are passed on to later lines; some are taken more than
+/// once, some never, and some are taken that were never put out.
+pub fn any_untimed(random: &mut Random, world: World, length: usize) -> Vec<Event> {
     let mut fresh = token_numbers(random);
     let never_put = fresh.split_off(fresh.len() - 8);
     let mut known: Vec<u16> = Vec::new();
@@ -41,7 +49,7 @@ pub fn any_trace(random: &mut Random, world: World, length: usize) -> Vec<Event>
             tokens.sort_unstable();
             tokens.dedup();
         }
-        events.push(Event { operation, taken, put });
+        events.push(Event { operation, taken, put, clock: Clock::default() });
     }
     events
 }
@@ -50,7 +58,7 @@ pub fn any_trace(random: &mut Random, world: World, length: usize) -> Vec<Event>
 /// matches often overlap or lie within each other.
 pub fn mixed(switches: usize) -> Vec<Event> {
     // A seed from which few lines pass tokens and few are barriers.
-    any_trace(&mut Random::from_seed(9), World { wide: false, switches }, 256)
+    any_untimed(&mut Random::from_seed(9), World { wide: false, switches }, 256)
 }
 
 /// All token numbers that a trace may need, in a random order, with the least and the largest.
@@ -81,10 +89,14 @@ pub fn all_received(events: &[Event]) -> Vec<Event> {
     events
 }
 
-/// Events without tokens.
+/// An event without tokens and without a clock.
+pub fn alone(operation: Operation) -> Event {
+    Event { operation, taken: Vec::new(), put: Vec::new(), clock: Clock::default() }
+}
+
+/// Events without tokens and without clocks.
 fn apart(operations: impl IntoIterator<Item = Operation>) -> Vec<Event> {
-    let event = |operation| Event { operation, taken: Vec::new(), put: Vec::new() };
-    operations.into_iter().map(event).collect()
+    operations.into_iter().map(alone).collect()
 }
 
 fn entry(matching: Match, port: u16) -> Entry {
@@ -110,6 +122,27 @@ pub fn token_chain() -> Vec<u8> {
     for (token, event) in (0..).zip(&mut events) {
         event.put = vec![token];
         event.taken = token.checked_sub(1).into_iter().collect();
+    }
+    trace_text(&events)
+}
+
+/// 256 adds of one key with different actions, each behind the one before it by a second more than a delay.
+pub fn clock_chain(delay: u32) -> Vec<u8> {
+    let mut events = apart((0..256).map(|n| Operation::Table(1, TableOperation::Add(entry(Match::ANY, n)))));
+    for (line, event) in (0..).zip(&mut events) {
+        let time = line * (delay + 1_000);
+        event.clock = Clock { from: time, to: time };
+    }
+    trace_text(&events)
+}
+
+/// 256 messages of one switch: one, and far behind it the others, whose times fall from line to line but all lie within a
+/// delay. No later line is far enough before an earlier one, and there is no pair.
+pub fn falling_clocks(delay: u32) -> Vec<u8> {
+    let mut events = apart((0..256).map(|_| Operation::Message(1)));
+    for (line, event) in (0..).zip(&mut events).skip(1) {
+        let time = 2 * delay + delay * (255 - line) / 254 + 1;
+        event.clock = Clock { from: time, to: time };
     }
     trace_text(&events)
 }

@@ -66,41 +66,50 @@ pub struct Refused {
 /// What both answered, with the bytes that they left in the buffer.
 pub type Answer<T> = Result<T, Refused>;
 
-/// The list call of both on a trace and a buffer of so many bytes.
-pub fn list(trace: &[u8], room: usize) -> Answer<(Counts, Vec<u8>)> {
+/// The delay of the programs.
+pub const DELAY: u32 = gellunka::DEFAULT_DELAY;
+
+/// The list call of both on a trace, a delay and a buffer of so many bytes.
+pub fn list(trace: &[u8], delay: u32, room: usize) -> Answer<(Counts, Vec<u8>)> {
     let (mut ours, mut theirs) = (Buffer::new(room), Buffer::new(room));
-    let proved = gellunka::list_races(trace, ours.bytes())
+    let proved = gellunka::list_races(trace, delay, ours.bytes())
         .map(|c| (c.pairs, c.ordered, c.commuting, c.listed))
         .map_err(|r| from_library(&r, trace, b""));
-    let plain = reference::list(trace, theirs.bytes());
+    let plain = reference::list(trace, delay, theirs.bytes());
     let expected = plain
         .map(|c| (c.pairs, c.ordered, c.commuting, c.listed))
         .map_err(|r| from_reference(&r, trace, b""));
-    let show = || format!("list call, buffer of {room} bytes\n{}", text("trace", trace));
+    let show = || format!("list call, delay {delay}, buffer of {room} bytes\n{}", text("trace", trace));
     same(&proved, &expected, show);
     same_buffers(&ours, &theirs, show);
     expected?;
     Ok((plain.expect("not refused"), theirs.into_bytes()))
 }
 
-/// The page call of both on a trace and a buffer of so many bytes: the page.
-pub fn page(trace: &[u8], room: usize) -> Answer<Vec<u8>> {
-    written("page call", trace, room, gellunka::page, reference::page)
+/// The page call of both on a trace, a delay and a buffer of so many bytes: the page.
+pub fn page(trace: &[u8], delay: u32, room: usize) -> Answer<Vec<u8>> {
+    written(
+        &format!("page call, delay {delay}"),
+        trace,
+        room,
+        |trace, out| gellunka::page(trace, delay, out),
+        |trace, out| reference::page(trace, delay, out),
+    )
 }
 
-/// The share call of both on a trace.
-pub fn share(trace: &[u8]) -> Answer<Share> {
-    let proved = gellunka::share(trace)
+/// The share call of both on a trace and a delay.
+pub fn share(trace: &[u8], delay: u32) -> Answer<Share> {
+    let proved = gellunka::share(trace, delay)
         .map(|s| Share { quotient: s.quotient, remainder: s.remainder, divisor: s.divisor })
         .map_err(|r| from_library(&r, trace, b""));
-    let expected = reference::share(trace).map_err(|r| from_reference(&r, trace, b""));
-    same(&proved, &expected, || format!("share call\n{}", text("trace", trace)));
+    let expected = reference::share(trace, delay).map_err(|r| from_reference(&r, trace, b""));
+    same(&proved, &expected, || format!("share call, delay {delay}\n{}", text("trace", trace)));
     expected
 }
 
-/// Of a valid trace with these counts both give the share that belongs to them.
-pub fn assert_share(trace: &[u8], counts: Counts) {
-    let share = share(trace).expect("a valid trace");
+/// Of a valid trace with these counts at a delay both give the share that belongs to them.
+pub fn assert_share(trace: &[u8], delay: u32, counts: Counts) {
+    let share = share(trace, delay).expect("a valid trace");
     let Share { quotient, remainder, divisor } = share;
     let holds = divisor == counts.commuting + counts.listed
         && divisor == counts.pairs - counts.ordered
@@ -119,8 +128,8 @@ fn written<'a>(
     call: &str,
     input: &'a [u8],
     room: usize,
-    proved: fn(&'a [u8], &mut [u8]) -> Result<usize, gellunka::Refusal<'a>>,
-    plain: fn(&'a [u8], &mut [u8]) -> Result<usize, reference::Refusal<'a>>,
+    proved: impl FnOnce(&'a [u8], &mut [u8]) -> Result<usize, gellunka::Refusal<'a>>,
+    plain: impl FnOnce(&'a [u8], &mut [u8]) -> Result<usize, reference::Refusal<'a>>,
 ) -> Answer<Vec<u8>> {
     let (mut ours, mut theirs) = (Buffer::new(room), Buffer::new(room));
     let proved = proved(input, ours.bytes()).map_err(|r| from_library(&r, input, input));
@@ -141,19 +150,20 @@ pub struct Replayed {
     pub answers: Vec<u8>,
 }
 
-/// The replay call of both, with buffers of so many bytes for the end tables and the answers.
-pub fn replay(trace: &[u8], tables: &[u8], order: &[u8], rooms: [usize; 2]) -> Answer<Replayed> {
+/// The replay call of both at a delay, with buffers of so many bytes for the end tables and the answers.
+pub fn replay(trace: &[u8], tables: &[u8], order: &[u8], delay: u32, rooms: [usize; 2]) -> Answer<Replayed> {
     let [mut our_tables, mut our_answers] = rooms.map(Buffer::new);
     let [mut their_tables, mut their_answers] = rooms.map(Buffer::new);
-    let proved = gellunka::replay(trace, tables, order, our_tables.bytes(), our_answers.bytes())
+    let proved = gellunka::replay(trace, tables, order, delay, our_tables.bytes(), our_answers.bytes())
         .map(|lengths| (lengths.tables, lengths.answers))
         .map_err(|r| from_library(&r, trace, tables));
-    let expected = reference::replay(trace, tables, order, their_tables.bytes(), their_answers.bytes())
-        .map(|lengths| (lengths.tables, lengths.answers))
-        .map_err(|r| from_reference(&r, trace, tables));
+    let expected =
+        reference::replay(trace, tables, order, delay, their_tables.bytes(), their_answers.bytes())
+            .map(|lengths| (lengths.tables, lengths.answers))
+            .map_err(|r| from_reference(&r, trace, tables));
     let show = || {
         let texts = [text("trace", trace), text("tables", tables)].concat();
-        format!("replay, order {order:?}, buffers of {rooms:?} bytes\n{texts}")
+        format!("replay, delay {delay}, order {order:?}, buffers of {rooms:?} bytes\n{texts}")
     };
     same(&proved, &expected, show);
     same_buffers(&our_tables, &their_tables, show);
@@ -165,18 +175,21 @@ pub fn replay(trace: &[u8], tables: &[u8], order: &[u8], rooms: [usize; 2]) -> A
     })
 }
 
-/// The call of both on many orders, with a buffer for so many results: the byte of each order.
-pub fn try_orders(trace: &[u8], tables: &[u8], orders: &[u8], room: usize) -> Answer<Vec<u8>> {
+/// The call of both on many orders at a delay, with a buffer for so many results: the byte of each order.
+pub fn try_orders(trace: &[u8], tables: &[u8], orders: &[u8], delay: u32, room: usize) -> Answer<Vec<u8>> {
     let mut theirs = Buffer::new(room);
     theirs.all.iter_mut().for_each(|byte| *byte %= 3);
     let mut ours: Vec<Trial> = theirs.all.iter().map(|&byte| TRIALS[usize::from(byte)]).collect();
-    let proved = gellunka::try_orders(trace, tables, orders, &mut ours[theirs.lent.clone()])
+    let proved = gellunka::try_orders(trace, tables, orders, delay, &mut ours[theirs.lent.clone()])
         .map_err(|r| from_library(&r, trace, tables));
-    let expected = reference::try_orders(trace, tables, orders, theirs.bytes())
+    let expected = reference::try_orders(trace, tables, orders, delay, theirs.bytes())
         .map_err(|r| from_reference(&r, trace, tables));
     let show = || {
         let inputs = [("trace", trace), ("tables", tables), ("orders", orders)];
-        format!("many orders, buffer for {room}\n{}", inputs.map(|(name, bytes)| text(name, bytes)).concat())
+        format!(
+            "many orders, delay {delay}, buffer for {room}\n{}",
+            inputs.map(|(name, bytes)| text(name, bytes)).concat()
+        )
     };
     same(&proved, &expected, show);
     let ours = Buffer { all: ours.iter().map(|&trial| trial as u8).collect(), lent: theirs.lent.clone() };
@@ -188,10 +201,10 @@ pub fn try_orders(trace: &[u8], tables: &[u8], orders: &[u8], room: usize) -> An
 /// What is told of an order, by its byte.
 const TRIALS: [Trial; 3] = [Trial::Agrees, Trial::Differs, Trial::Refused];
 
-/// A trace of events on one switch that nothing orders, each a word and its items.
+/// A trace of events on one switch without clocks that nothing orders, each a word and its items.
 pub fn trace(events: &[(&str, String)]) -> Vec<u8> {
     let line = |(number, (word, items)): (usize, &(&str, String))| {
-        format!("ev={number} do={word} in=- out=- sw=1 {items}\n")
+        format!("ev={number} do={word} in=- out=- from=0 to=0 sw=1 {items}\n")
     };
     events.iter().enumerate().map(line).collect::<String>().into_bytes()
 }
@@ -199,7 +212,7 @@ pub fn trace(events: &[(&str, String)]) -> Vec<u8> {
 /// Of the pairs of such events those are listed by both of which this holds.
 pub fn assert_listed(events: &[(&str, String)], races: impl Fn(usize, usize) -> bool) {
     let trace = trace(events);
-    let (counts, mut pairs) = list(&trace, 65_280).expect("a valid trace");
+    let (counts, mut pairs) = list(&trace, DELAY, 65_280).expect("a valid trace");
     pairs.truncate(2 * counts.listed);
     let later = |low: usize| (low + 1..events.len()).map(move |high| (low, high));
     let expected: Vec<u8> = (0..events.len())
@@ -255,7 +268,7 @@ fn from_reference(refusal: &reference::Refusal, trace: &[u8], tables: &[u8]) -> 
 }
 
 fn refused(number: usize, place: usize, line: &[u8], trace: &[u8], tables: &[u8]) -> Refused {
-    let in_text = if number < 10 { trace } else { tables };
+    let in_text = if matches!(number, 14..=16) { tables } else { trace };
     let at = (!line.is_empty()).then(|| {
         let at = line.as_ptr().addr() - in_text.as_ptr().addr();
         assert_eq!(&in_text[at..][..line.len()], line, "the refused line is a part of its text");

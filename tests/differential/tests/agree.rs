@@ -1,6 +1,7 @@
 //! Many thousands of texts, valid and damaged, short and at the limits, every refusal, buffer lengths around the
 //! needed one, orders allowed, refused and damaged, one by one and many in one call: library and reference agree on each. The seeds are fixed.
 
+use cases::clocks::{any_delay, any_unsorted_clocks};
 use cases::damage::damaged;
 use cases::orders::{all_orders, any_allowed, any_damaged, any_orders, any_uneven, is_allowed};
 use cases::print::{tables_text, trace_text};
@@ -36,11 +37,11 @@ impl Met {
     }
 }
 
-/// The counts and the list of a valid trace, whose share is that of the counts.
-fn listed(trace: &[u8]) -> (Counts, Vec<u8>) {
-    let (counts, mut pairs) = list(trace, LIST_ROOM).expect("a valid trace");
+/// The counts and the list of a valid trace at a delay, whose share is that of the counts.
+fn listed(trace: &[u8], delay: u32) -> (Counts, Vec<u8>) {
+    let (counts, mut pairs) = list(trace, delay, LIST_ROOM).expect("a valid trace");
     pairs.truncate(2 * counts.listed);
-    assert_share(trace, counts);
+    assert_share(trace, delay, counts);
     (counts, pairs)
 }
 
@@ -81,17 +82,18 @@ fn lists_pages_and_shares_of_valid_traces() {
         let world = World::any(&mut random);
         let length = any_length(&mut random);
         let trace = trace_text(&any_trace(&mut random, world, length));
-        let (counts, pairs) = listed(&trace);
+        let delay = any_delay(&mut random);
+        let (counts, pairs) = listed(&trace, delay);
         for room in lengths_around(pairs.len()) {
-            let answer = list(&trace, room);
+            let answer = list(&trace, delay, room);
             assert_eq!(answer.is_ok(), room >= pairs.len());
         }
         let lines = counts.listed + 4;
         for room in lengths_around(61 * lines).into_iter().chain([60 * lines]) {
-            let answer = page(&trace, room);
+            let answer = page(&trace, delay, room);
             assert_eq!(answer.is_ok(), room >= 61 * lines);
         }
-        let made = page(&trace, 61 * lines).expect("a valid trace");
+        let made = page(&trace, delay, 61 * lines).expect("a valid trace");
         let (words, all) = (words_on(&made), words_in(&trace));
         assert_eq!(words, pairs.iter().map(|&event| all[usize::from(event)]).collect::<Vec<_>>());
         met.extend(words.into_iter().map(str::to_owned));
@@ -108,23 +110,27 @@ fn lists_pages_and_shares_of_damaged_traces() {
     for _ in 0..10_000 {
         let world = World::any(&mut random);
         let length = if random.one_in(20) { any_length(&mut random) } else { random.below(8) };
-        let trace = trace_text(&any_trace(&mut random, world, length));
+        let mut events = any_trace(&mut random, world, length);
+        if random.one_in(8) {
+            any_unsorted_clocks(&mut random, &mut events);
+        }
+        let (trace, delay) = (trace_text(&events), any_delay(&mut random));
         let fault = damaged(&mut random, &trace);
-        let (listed, shared) = (list(&fault, LIST_ROOM), share(&fault));
+        let (listed, shared) = (list(&fault, delay, LIST_ROOM), share(&fault, delay));
         met.note(&listed);
         met_by_share.note(&shared);
         assert_eq!(shared.err(), listed.err());
-        met_by_page.note(&page(&fault, SHORT_PAGE));
+        met_by_page.note(&page(&fault, delay, SHORT_PAGE));
         let room = random.below(4);
         let fault = damaged(&mut random, &trace);
-        met.note(&list(&fault, room));
+        met.note(&list(&fault, delay, room));
         // Around the shortest page, and around that of one pair.
-        met_by_page.note(&page(&fault, 242 + room));
-        met_by_page.note(&page(&fault, 303 + room));
+        met_by_page.note(&page(&fault, delay, 242 + room));
+        met_by_page.note(&page(&fault, delay, 303 + room));
     }
-    met.assert_all(&[0, 1, 2, 3, 4, 5, 6, 7, 8, 31], 50);
-    met_by_page.assert_all(&[0, 1, 2, 3, 4, 5, 6, 7, 8, 51], 50);
-    met_by_share.assert_all(&[0, 1, 2, 3, 4, 5, 6, 7, 8], 50);
+    met.assert_all(&[0, 1, 2, 3, 4, 5, 6, 7, 8, 31, 54, 55], 50);
+    met_by_page.assert_all(&[0, 1, 2, 3, 4, 5, 6, 7, 8, 51, 54, 55], 50);
+    met_by_share.assert_all(&[0, 1, 2, 3, 4, 5, 6, 7, 8, 54, 55], 50);
 }
 
 /// With `pkt` for each `pout` there are as many pairs, all that were listed are, and the recorded order leaves the same
@@ -137,14 +143,15 @@ fn packets_sent_out_as_received() {
         let world = World { wide: false, switches: random.pick(&[1, 2]) };
         let (length, lines) = (any_length(&mut random), any_length(&mut random));
         let events = any_trace(&mut random, world, length);
+        let delay = any_delay(&mut random);
         let traces = [trace_text(&events), trace_text(&all_received(&events))];
-        let [(fewer, part), (counts, pairs)] = traces.each_ref().map(|trace| listed(trace));
+        let [(fewer, part), (counts, pairs)] = traces.each_ref().map(|trace| listed(trace, delay));
         assert_eq!(fewer.pairs, counts.pairs);
         let [part, pairs] = [&part, &pairs].map(|list| list.chunks(2).collect::<BTreeSet<_>>());
         assert!(part.is_subset(&pairs));
         more += usize::from(part.len() < pairs.len());
         let tables = tables_text(&any_tables(&mut random, world, lines));
-        let replay = |trace: &Vec<u8>| replay(trace, &tables, &recorded_order(length), ROOMS);
+        let replay = |trace: &Vec<u8>| replay(trace, &tables, &recorded_order(length), delay, ROOMS);
         let [sent_out, received] = traces.each_ref().map(|trace| replay(trace).expect("all valid"));
         assert_eq!(sent_out, received);
     }
@@ -160,8 +167,9 @@ fn two_different_lists_never_make_the_same_page() {
         let world = World { wide: false, switches: random.pick(&[1, 2]) };
         let length = random.below(7);
         let trace = trace_text(&any_trace(&mut random, world, length));
-        let list = listed(&trace);
-        let page = page(&trace, SHORT_PAGE).expect("a valid trace");
+        let delay = any_delay(&mut random);
+        let list = listed(&trace, delay);
+        let page = page(&trace, delay, SHORT_PAGE).expect("a valid trace");
         let known = lists.entry(page).or_insert_with(|| list.clone());
         assert_eq!(*known, list);
     }
@@ -211,18 +219,18 @@ fn replays_of_valid_traces() {
         let (length, lines) = (any_length(&mut random), any_length(&mut random));
         let trace = trace_text(&any_trace(&mut random, world, length));
         let tables = tables_text(&any_tables(&mut random, world, lines));
-        let recorded = recorded_order(length);
-        let written = replay(&trace, &tables, &recorded, ROOMS).expect("all valid");
+        let (recorded, delay) = (recorded_order(length), any_delay(&mut random));
+        let written = replay(&trace, &tables, &recorded, delay, ROOMS).expect("all valid");
         let needed = [written.tables.len(), written.answers.len()];
         for short in lengths_around(needed[0]) {
-            met.note(&replay(&trace, &tables, &recorded, [short, needed[1]]));
+            met.note(&replay(&trace, &tables, &recorded, delay, [short, needed[1]]));
         }
         for short in lengths_around(needed[1]) {
-            met.note(&replay(&trace, &tables, &recorded, [needed[0], short]));
+            met.note(&replay(&trace, &tables, &recorded, delay, [needed[0], short]));
         }
         for _ in 0..6 {
             let order = any_damaged(&mut random, &recorded);
-            met.note(&replay(&trace, &tables, &order, ROOMS));
+            met.note(&replay(&trace, &tables, &order, delay, ROOMS));
         }
     }
     met.assert_all(&[0, 21, 22, 32, 33], 100);
@@ -248,9 +256,9 @@ fn replays_of_damaged_texts() {
             order = any_damaged(&mut random, &order);
         }
         let rooms = if random.one_in(2) { ROOMS } else { [random.below(1_000), random.below(60)] };
-        met.note(&replay(&trace, &tables, &order, rooms));
+        met.note(&replay(&trace, &tables, &order, any_delay(&mut random), rooms));
     }
-    let all = [0, 1, 2, 3, 4, 5, 6, 7, 8, 11, 12, 13, 14, 15, 16, 21, 22, 32, 33];
+    let all = [0, 1, 2, 3, 4, 5, 6, 7, 8, 11, 12, 13, 14, 15, 16, 21, 22, 32, 33, 54, 55];
     met.assert_all(&all, 10);
 }
 
@@ -263,7 +271,8 @@ fn many_orders_of_valid_traces() {
         let world = World::any(&mut random);
         let (length, lines) = (any_length(&mut random), any_length(&mut random));
         let events = any_trace(&mut random, world, length);
-        let before = happens_before(&events);
+        let delay = any_delay(&mut random);
+        let before = happens_before(&events, delay);
         let (_, listed) = racing_pairs(&events, &before);
         let trace = trace_text(&events);
         let tables = tables_text(&any_tables(&mut random, world, lines));
@@ -271,13 +280,13 @@ fn many_orders_of_valid_traces() {
         let orders = any_orders(&mut random, &before, &listed, count);
         let needed = if length == 0 { 0 } else { count };
         for room in lengths_around(needed) {
-            let answer = try_orders(&trace, &tables, &orders, room);
+            let answer = try_orders(&trace, &tables, &orders, delay, room);
             met.note(&answer);
             assert_eq!(answer.is_ok(), room >= needed);
         }
-        let tried = try_orders(&trace, &tables, &orders, needed).expect("all valid");
+        let tried = try_orders(&trace, &tables, &orders, delay, needed).expect("all valid");
         tried.iter().for_each(|&byte| bytes[usize::from(byte)] += 1);
-        met.note(&try_orders(&trace, &tables, &any_uneven(&mut random, &orders), count + 1));
+        met.note(&try_orders(&trace, &tables, &any_uneven(&mut random, &orders), delay, count + 1));
     }
     met.assert_all(&[0, 52, 53], 100);
     assert!(bytes.iter().all(|&times| times > 200), "{bytes:?}");
@@ -291,7 +300,8 @@ fn many_orders_of_damaged_texts() {
         let world = World::any(&mut random);
         let length = random.below(8);
         let events = any_trace(&mut random, world, length);
-        let (mut trace, before) = (trace_text(&events), happens_before(&events));
+        let delay = any_delay(&mut random);
+        let (mut trace, before) = (trace_text(&events), happens_before(&events, delay));
         let mut tables = tables_text(&any_tables(&mut random, world, length));
         let count = random.below(6);
         let mut orders = any_orders(&mut random, &before, &[], count);
@@ -305,9 +315,9 @@ fn many_orders_of_damaged_texts() {
             orders = any_uneven(&mut random, &orders);
         }
         let room = if random.one_in(2) { 64 } else { random.below(6) };
-        met.note(&try_orders(&trace, &tables, &orders, room));
+        met.note(&try_orders(&trace, &tables, &orders, delay, room));
     }
-    let all = [0, 1, 2, 3, 4, 5, 6, 7, 8, 11, 12, 13, 14, 15, 16, 52, 53];
+    let all = [0, 1, 2, 3, 4, 5, 6, 7, 8, 11, 12, 13, 14, 15, 16, 52, 53, 54, 55];
     met.assert_all(&all, 10);
 }
 
@@ -321,13 +331,14 @@ fn all_orders_of_small_traces() {
         let world = World { wide: false, switches: random.pick(&[1, 2]) };
         let length = random.below(6);
         let events = any_trace(&mut random, world, length);
-        let before = happens_before(&events);
+        let delay = any_delay(&mut random);
+        let before = happens_before(&events, delay);
         let (_, listed) = racing_pairs(&events, &before);
         let trace = trace_text(&events);
         let tables = tables_text(&any_tables(&mut random, world, 4));
-        let recorded = replay(&trace, &tables, &recorded_order(length), ROOMS).expect("all valid");
+        let recorded = replay(&trace, &tables, &recorded_order(length), delay, ROOMS).expect("all valid");
         for order in all_orders(length) {
-            let result = replay(&trace, &tables, &order, ROOMS);
+            let result = replay(&trace, &tables, &order, delay, ROOMS);
             if is_allowed(&order, &before, &listed) {
                 allowed += 1;
                 assert_eq!(result.as_ref(), Ok(&recorded));
@@ -354,7 +365,8 @@ fn allowed_orders_agree() {
         let world = World::any(&mut random);
         let (length, lines) = (any_length(&mut random), any_length(&mut random));
         let events = any_trace(&mut random, world, length);
-        let before = happens_before(&events);
+        let delay = any_delay(&mut random);
+        let before = happens_before(&events, delay);
         let (_, listed) = racing_pairs(&events, &before);
         let trace = trace_text(&events);
         let mut entries = any_tables(&mut random, world, lines);
@@ -362,11 +374,11 @@ fn allowed_orders_agree() {
         random.shuffle(&mut entries);
         let typed_anew = tables_text(&entries);
         let recorded = recorded_order(length);
-        let written = replay(&trace, &tables, &recorded, ROOMS).expect("all valid");
+        let written = replay(&trace, &tables, &recorded, delay, ROOMS).expect("all valid");
         for _ in 0..3 {
             let order = any_allowed(&mut random, &before, &listed);
             moved += usize::from(order != recorded);
-            assert_eq!(replay(&trace, &typed_anew, &order, ROOMS).as_ref(), Ok(&written));
+            assert_eq!(replay(&trace, &typed_anew, &order, delay, ROOMS).as_ref(), Ok(&written));
         }
     }
     assert!(moved > 500, "{moved} orders differ from the recorded one");

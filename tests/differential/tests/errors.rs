@@ -2,7 +2,7 @@
 //! input comes in parts: seen from outside.
 
 use cases::{tables, traces};
-use differential::{program, Folder};
+use differential::{program, Folder, DELAY};
 use reference::output::{normalised, racelist, racepage, raceshare, replayed, tried};
 use reference::replay::recorded_order;
 use std::fs::File;
@@ -11,7 +11,7 @@ use std::path::{Path, PathBuf};
 use std::process::{Command, Output, Stdio};
 use std::time::Duration;
 
-const TRACE: &[u8] = b"ev=0 do=bar in=- out=- sw=1\n";
+const TRACE: &[u8] = b"ev=0 do=bar in=- out=- from=0 to=0 sw=1\n";
 const TABLES: &[u8] =
     b"sw=1 prio=1 port=* vlan=* src=00000000/0 dst=00000000/0 proto=* sport=* dport=* act=drop\n";
 
@@ -141,13 +141,52 @@ fn missing_and_surplus_arguments_are_said() {
         let input = if name == "normalise" { "TABLES" } else { "TRACE" };
         says(&output, &format!("usage: {name} < {input}\n"));
     }
-    for count in [0, 1, 4, 5] {
+    for count in [0, 1, 5, 6] {
         let output = program("replay_trace").args(vec!["x"; count]).output().expect("the program ends");
-        says(&output, "usage: replay_trace TRACE TABLES [ORDER]");
+        says(&output, "usage: replay_trace TRACE TABLES [ORDER [DELAY]]\n");
     }
-    for count in [0, 1, 2, 4, 5] {
+    for count in [0, 1, 2, 5, 6] {
         let output = program("replay_orders").args(vec!["x"; count]).output().expect("the program ends");
-        says(&output, "usage: replay_orders TRACE TABLES ORDERS");
+        says(&output, "usage: replay_orders TRACE TABLES ORDERS [DELAY]\n");
+    }
+}
+
+/// Also where the texts would be refused.
+#[test]
+fn what_is_no_delay_is_said() {
+    let folder = Folder::new("delay");
+    let long = "0".repeat(5_000);
+    for bad in [
+        "",
+        "-",
+        "-1",
+        "+1",
+        "00",
+        "01",
+        "02000",
+        "4294967296",
+        "42949672950",
+        "18446744073709551616",
+        " 1",
+        "1 ",
+        "1\t",
+        "2s",
+        "2000ms",
+        "*",
+        "1e3",
+        "0x1",
+        &long,
+    ] {
+        for (name, trace) in OF_FILES.into_iter().flat_map(|name| [(name, TRACE), (name, b"x\n")]) {
+            let output = of_files(name, &folder, trace).arg(bad).output().expect("the program ends");
+            says(&output, "");
+        }
+    }
+    for good in ["0", "1", "2000", "4294967295"] {
+        for name in OF_FILES {
+            let output = of_files(name, &folder, TRACE).arg(good).output().expect("the program ends");
+            assert!(!output.stdout.is_empty() && output.stderr.is_empty(), "{name} {good}");
+        }
     }
 }
 
@@ -180,12 +219,12 @@ fn an_input_may_come_in_parts() {
     let standard_input = PathBuf::from("/dev/stdin");
     let orders = [recorded_order(256), vec![0; 256]].concat().repeat(100);
     for (name, arguments, input, expected) in [
-        ("replay_trace", vec![&standard_input, &tables_file], &trace, replayed(&trace, &tables, None)),
+        ("replay_trace", vec![&standard_input, &tables_file], &trace, replayed(&trace, &tables, None, DELAY)),
         (
             "replay_orders",
             vec![&trace_file, &tables_file, &standard_input],
             &orders,
-            tried(&trace, &tables, &orders),
+            tried(&trace, &tables, &orders, DELAY),
         ),
     ] {
         let mut command = program(name);

@@ -1,7 +1,7 @@
 //! Matches that differ in one field: what the list says of each two of them, with all words, where the others are open and
 //! where they are exact. The library compares all fields at once, as words of bits, and the reference in its own way.
 
-use differential::{assert_listed, list, trace};
+use differential::{assert_listed, list, trace, DELAY};
 
 const FIELDS: [&str; 7] = ["port", "vlan", "src", "dst", "proto", "sport", "dport"];
 const WORDS: [&str; 8] = ["add", "addc", "mods", "modn", "dels", "deln", "pkt", "pout"];
@@ -81,7 +81,7 @@ fn each_field_alone_decides() {
                         events.extend(WORDS.map(|word| event(word, &matching, &packet, priority, action)));
                     }
                 }
-                let (counts, _) = list(&trace(&events), 65_280).expect("a valid trace");
+                let (counts, _) = list(&trace(&events), DELAY, 65_280).expect("a valid trace");
                 assert_eq!(counts.pairs, events.len() * (events.len() - 1) / 2);
                 listed += counts.listed;
             }

@@ -4,9 +4,9 @@
 use cases::orders::accepted_orders;
 use cases::print::{tables_text, trace_text};
 use cases::tables::{any_tables, long_entry, reversed, LONG_SWITCH};
-use cases::traces::{any_length, any_trace};
+use cases::traces::{alone, any_length, any_trace};
 use cases::{Random, World};
-use differential::replay;
+use differential::{replay, DELAY};
 use gellunka::{ANSWERS_ROOM, TABLES_ROOM};
 use reference::flow::Entry;
 use reference::happens_before;
@@ -18,7 +18,7 @@ use reference::trace::{Event, Operation};
 fn held(events: &[Event], tables: &[u8]) -> Vec<usize> {
     let after = |count: usize| {
         let trace = trace_text(&events[..count]);
-        let written = replay(&trace, tables, &recorded_order(count), [TABLES_ROOM, ANSWERS_ROOM]);
+        let written = replay(&trace, tables, &recorded_order(count), DELAY, [TABLES_ROOM, ANSWERS_ROOM]);
         written.expect("all valid").tables.iter().filter(|&&byte| byte == b'\n').count()
     };
     (0..=events.len()).map(after).collect()
@@ -26,7 +26,7 @@ fn held(events: &[Event], tables: &[u8]) -> Vec<usize> {
 
 /// Some events in an order that keeps happens-before.
 fn in_another_order(random: &mut Random, events: &[Event]) -> Vec<Event> {
-    let order = accepted_orders(random, &happens_before(events), 1);
+    let order = accepted_orders(random, &happens_before(events, DELAY), 1);
     order.iter().map(|&event| events[usize::from(event)].clone()).collect()
 }
 
@@ -63,11 +63,7 @@ fn from_256_entries_to_512() {
         TableOperation::Modify,
     ];
     for word in words {
-        let event = |n| Event {
-            operation: Operation::Table(LONG_SWITCH, word(long_entry(n))),
-            taken: Vec::new(),
-            put: Vec::new(),
-        };
+        let event = |n| alone(Operation::Table(LONG_SWITCH, word(long_entry(n))));
         let others: Vec<Event> = (256..512).map(event).collect();
         assert_eq!(held(&others, &reversed()), (256..=512).collect::<Vec<_>>());
         let same: Vec<Event> = (0..256).map(event).collect();

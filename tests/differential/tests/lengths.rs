@@ -1,7 +1,7 @@
 //! Prefixes of all 33 lengths in `src` and in `dst`: which pass, what fits them, which overlap and which lie within one
 //! another. Library and reference agree, and both do what the first bits of the addresses say.
 
-use differential::{assert_listed, list, normalise, replay, trace};
+use differential::{assert_listed, list, normalise, replay, trace, DELAY};
 use reference::replay::recorded_order;
 
 const FIELDS: [&str; 2] = ["src", "dst"];
@@ -57,7 +57,7 @@ fn a_bit_past_the_length_is_refused() {
                 let matching = matching(field, &format!("{:08x}/{length}", bit(place)));
                 let tables = format!("sw=1 prio=1 {matching} act=p1\n");
                 let normal = normalise(tables.as_bytes(), 128).map_err(|refused| refused.number);
-                let counts = list(&trace(&[("deln", matching)]), 0).map_err(|refused| refused.number);
+                let counts = list(&trace(&[("deln", matching)]), DELAY, 0).map_err(|refused| refused.number);
                 let passes = place < length;
                 assert_eq!(normal, if passes { Ok(tables.into_bytes()) } else { Err(15) });
                 assert_eq!(counts.map(|(counts, _)| counts.pairs), if passes { Ok(0) } else { Err(6) });
@@ -76,7 +76,8 @@ fn which_prefixes_a_packet_fits() {
         };
         let events: Vec<_> = LENGTHS.map(rule).chain([("pkt", packet(field, other))]).collect();
         assert_listed(&events, |length, event| event == 33 && length <= shared);
-        let written = replay(&trace(&events), b"", &recorded_order(34), [58_880, 64]).expect("all valid");
+        let written =
+            replay(&trace(&events), b"", &recorded_order(34), DELAY, [58_880, 64]).expect("all valid");
         assert_eq!(written.answers, format!("ev=33 hit={shared},1,p{shared}\n").into_bytes());
     });
 }

@@ -1,7 +1,7 @@
 //! Texts at the limits, and the worst cases.
 
 use cases::{lengths_around, tables, traces};
-use differential::{assert_share, list, normalise, page, replay, share, try_orders};
+use differential::{assert_share, list, normalise, page, replay, share, try_orders, DELAY};
 use reference::replay::recorded_order;
 use reference::table::Origin;
 use std::collections::BTreeSet;
@@ -18,32 +18,33 @@ fn bytes_and_lines() {
             for last in [b'\n', b'x'] {
                 let mut text = vec![fill; length];
                 text[length - 1] = last;
-                let _ = list(&text, 0);
-                let _ = page(&text, 0);
-                let _ = share(&text);
+                let _ = list(&text, DELAY, 0);
+                let _ = page(&text, DELAY, 0);
+                let _ = share(&text, DELAY);
                 let _ = normalise(&text, 0);
-                let _ = replay(&text, &text, &[], [0, 0]);
-                let _ = replay(b"", &text, &[], [0, 0]);
-                let _ = try_orders(&text, &text, &[0], 0);
-                let _ = try_orders(b"", &text, &[0], 0);
+                let _ = replay(&text, &text, &[], DELAY, [0, 0]);
+                let _ = replay(b"", &text, &[], DELAY, [0, 0]);
+                let _ = try_orders(&text, &text, &[0], DELAY, 0);
+                let _ = try_orders(b"", &text, &[0], DELAY, 0);
             }
         }
     }
-    let oth = |n: usize| (0..n).map(|i| format!("ev={i} do=oth in=- out=-\n")).collect::<String>();
-    assert!(list(oth(256).as_bytes(), 0).is_ok());
-    assert_eq!(refused(list(oth(257).as_bytes(), 0)), (3, 0));
-    assert_eq!(refused(page(oth(256).as_bytes(), 243)), (51, 244));
-    assert_eq!(refused(page(oth(257).as_bytes(), 243)), (3, 0));
-    assert!(share(oth(256).as_bytes()).is_ok());
-    assert_eq!(refused(share(oth(257).as_bytes())), (3, 0));
-    assert_eq!(refused(try_orders(oth(256).as_bytes(), b"", &[0; 257], 0)), (52, 0));
-    assert_eq!(refused(try_orders(oth(257).as_bytes(), b"", &[0; 256], 0)), (3, 0));
+    let oth =
+        |n: usize| (0..n).map(|i| format!("ev={i} do=oth in=- out=- from=0 to=0\n")).collect::<String>();
+    assert!(list(oth(256).as_bytes(), DELAY, 0).is_ok());
+    assert_eq!(refused(list(oth(257).as_bytes(), DELAY, 0)), (3, 0));
+    assert_eq!(refused(page(oth(256).as_bytes(), DELAY, 243)), (51, 244));
+    assert_eq!(refused(page(oth(257).as_bytes(), DELAY, 243)), (3, 0));
+    assert!(share(oth(256).as_bytes(), DELAY).is_ok());
+    assert_eq!(refused(share(oth(257).as_bytes(), DELAY)), (3, 0));
+    assert_eq!(refused(try_orders(oth(256).as_bytes(), b"", &[0; 257], DELAY, 0)), (52, 0));
+    assert_eq!(refused(try_orders(oth(257).as_bytes(), b"", &[0; 256], DELAY, 0)), (3, 0));
     // The longest accepted lines, and a line that fills the text up to its last byte.
     let mut text = oth(255).into_bytes();
     text.resize(65_534, b'0');
     text.push(b'\n');
-    assert_eq!(refused(list(&text, 0)), (4, 255));
-    assert_eq!(refused(share(&text)), (4, 255));
+    assert_eq!(refused(list(&text, DELAY, 0)), (4, 255));
+    assert_eq!(refused(share(&text, DELAY)), (4, 255));
     let mut text = tables::reversed();
     text.truncate(text.iter().rposition(|&b| b == b' ').expect("a space"));
     text.resize(65_534, b'1');
@@ -55,21 +56,25 @@ fn bytes_and_lines() {
 fn single_bytes_and_pairs_of_bytes() {
     for a in 0..=255u8 {
         for text in [&[a][..], &[a, b'\n']] {
-            let _ = list(text, 8);
-            let _ = page(text, 8);
-            let _ = share(text);
+            let _ = list(text, DELAY, 8);
+            let _ = page(text, DELAY, 8);
+            let _ = share(text, DELAY);
             let _ = normalise(text, 8);
-            let _ = replay(text, b"", text, [8, 8]);
-            let _ = replay(b"", text, b"", [8, 8]);
-            let _ = replay(b"", b"", text, [8, 8]);
-            let _ = try_orders(text, b"", text, 8);
-            let _ = try_orders(b"", text, text, 8);
-            let _ = try_orders(b"", b"", text, 8);
-            let _ = try_orders(b"ev=0 do=oth in=- out=-\n", b"", text, 8);
+            let _ = replay(text, b"", text, DELAY, [8, 8]);
+            let _ = replay(b"", text, b"", DELAY, [8, 8]);
+            let _ = replay(b"", b"", text, DELAY, [8, 8]);
+            let _ = try_orders(text, b"", text, DELAY, 8);
+            let _ = try_orders(b"", text, text, DELAY, 8);
+            let _ = try_orders(b"", b"", text, DELAY, 8);
+            let _ = try_orders(b"ev=0 do=oth in=- out=- from=0 to=0\n", b"", text, DELAY, 8);
         }
     }
-    assert!(list(b"", 0).is_ok() && normalise(b"", 0).is_ok() && replay(b"", b"", b"", [0, 0]).is_ok());
-    assert_eq!(try_orders(b"", b"", b"", 0), Ok(Vec::new()));
+    assert!(
+        list(b"", DELAY, 0).is_ok()
+            && normalise(b"", 0).is_ok()
+            && replay(b"", b"", b"", DELAY, [0, 0]).is_ok()
+    );
+    assert_eq!(try_orders(b"", b"", b"", DELAY, 0), Ok(Vec::new()));
 }
 
 const MATCHING: &str = "port=* vlan=4095 src=0a000000/8 dst=0a010000/16 proto=6 sport=* dport=80";
@@ -78,17 +83,17 @@ const MATCHING: &str = "port=* vlan=4095 src=0a000000/8 dst=0a010000/16 proto=6 
 fn kinds_of_line() -> [(&'static str, String); 11] {
     let packet = "sw=1 port=1 vlan=4095 src=0a000001 dst=ffffffff proto=255 sport=0 dport=65535";
     [
-        ("oth", "in=65535 out=1,2,3,4".to_owned()),
-        ("bar", "in=- out=7 sw=15".to_owned()),
-        ("msg", "in=0,10 out=- sw=0".to_owned()),
-        ("pkt", format!("in=- out=- {packet}")),
-        ("pout", format!("in=8,9 out=- {packet}")),
-        ("add", format!("in=- out=- sw=1 prio=10 {MATCHING} act=p2")),
-        ("addc", format!("in=- out=- sw=1 prio=10 {MATCHING} act=drop")),
-        ("mods", format!("in=- out=- sw=1 prio=10 {MATCHING} act=ctl")),
-        ("modn", format!("in=- out=- sw=1 prio=10 {MATCHING} act=p65535")),
-        ("dels", format!("in=- out=- sw=1 prio=0 {MATCHING}")),
-        ("deln", format!("in=- out=- sw=1 {MATCHING}")),
+        ("oth", "in=65535 out=1,2,3,4 from=9 to=99".to_owned()),
+        ("bar", "in=- out=7 from=10 to=4294967295 sw=15".to_owned()),
+        ("msg", "in=0,10 out=- from=0 to=0 sw=0".to_owned()),
+        ("pkt", format!("in=- out=- from=0 to=0 {packet}")),
+        ("pout", format!("in=8,9 out=- from=0 to=0 {packet}")),
+        ("add", format!("in=- out=- from=0 to=0 sw=1 prio=10 {MATCHING} act=p2")),
+        ("addc", format!("in=- out=- from=0 to=0 sw=1 prio=10 {MATCHING} act=drop")),
+        ("mods", format!("in=- out=- from=0 to=0 sw=1 prio=10 {MATCHING} act=ctl")),
+        ("modn", format!("in=- out=- from=0 to=0 sw=1 prio=10 {MATCHING} act=p65535")),
+        ("dels", format!("in=- out=- from=0 to=0 sw=1 prio=0 {MATCHING}")),
+        ("deln", format!("in=- out=- from=0 to=0 sw=1 {MATCHING}")),
     ]
 }
 
@@ -100,9 +105,9 @@ fn every_word_in_every_kind_of_line() {
     for (_, rest) in kinds_of_line() {
         let is_accepted = |word: &str| {
             let text = format!("ev=0 do={word} {rest}\n");
-            let _ = page(text.as_bytes(), 244);
-            let _ = share(text.as_bytes());
-            list(text.as_bytes(), 0).is_ok()
+            let _ = page(text.as_bytes(), DELAY, 244);
+            let _ = share(text.as_bytes(), DELAY);
+            list(text.as_bytes(), DELAY, 0).is_ok()
         };
         accepted += words.iter().filter(|word| is_accepted(word)).count();
         for word in ["", "pk", "pkts", "po", "pou", "pouts", "pout ", "poutin=-", "Pout", "ad", "other"] {
@@ -118,11 +123,11 @@ fn every_word_in_every_kind_of_line() {
 fn every_byte_of_every_kind_of_line() {
     for (word, rest) in kinds_of_line() {
         let text = format!("ev=0 do={word} {rest}\n").into_bytes();
-        assert!(list(&text, 0).is_ok() && page(&text, 244).is_ok());
+        assert!(list(&text, DELAY, 0).is_ok() && page(&text, DELAY, 244).is_ok());
         each_change(&text, |changed| {
-            let _ = list(changed, 0);
-            let _ = page(changed, 244);
-            let _ = share(changed);
+            let _ = list(changed, DELAY, 0);
+            let _ = page(changed, DELAY, 244);
+            let _ = share(changed, DELAY);
         });
     }
     let text = format!("sw=1 prio=10 {MATCHING} act=p2\n").into_bytes();
@@ -153,30 +158,33 @@ fn worst_cases() {
         traces::barriers(),
         traces::barriers_and_packets(),
         traces::only_barriers(),
+        traces::clock_chain(DELAY),
+        traces::falling_clocks(DELAY),
         traces::long_adds(),
         traces::long_checked_adds(),
         traces::packets_to_the_last(Origin::Received),
         traces::packets_to_the_last(Origin::SentOut),
     ];
     for trace in &traces {
-        let (counts, _) = list(trace, 65_280).expect("a valid trace");
-        assert_share(trace, counts);
+        let (counts, _) = list(trace, DELAY, 65_280).expect("a valid trace");
+        assert_share(trace, DELAY, counts);
         for room in lengths_around(2 * counts.listed) {
-            let _ = list(trace, room);
+            let _ = list(trace, DELAY, room);
         }
         let lines = counts.listed + 4;
         for room in lengths_around(61 * lines).into_iter().chain([60 * lines]) {
-            let _ = page(trace, room);
+            let _ = page(trace, DELAY, room);
         }
         for tables in [&b""[..], &tables::reversed(), &tables::sorted()] {
-            let written = replay(trace, tables, &recorded_order(256), [58_880, 7_168]).expect("all valid");
+            let written =
+                replay(trace, tables, &recorded_order(256), DELAY, [58_880, 7_168]).expect("all valid");
             for room in lengths_around(written.tables.len()) {
-                let _ = replay(trace, tables, &recorded_order(256), [room, 7_168]);
+                let _ = replay(trace, tables, &recorded_order(256), DELAY, [room, 7_168]);
             }
             let mut backward = recorded_order(256);
             backward.reverse();
-            let _ = replay(trace, tables, &backward, [58_880, 7_168]);
-            let _ = try_orders(trace, tables, &[recorded_order(256), backward].concat(), 2);
+            let _ = replay(trace, tables, &backward, DELAY, [58_880, 7_168]);
+            let _ = try_orders(trace, tables, &[recorded_order(256), backward].concat(), DELAY, 2);
         }
     }
     let normal = normalise(&tables::reversed(), 65_535).expect("valid tables");
@@ -192,9 +200,9 @@ fn the_longest_lines() {
     assert_eq!((256 * 115, 512 * 115), (NORMAL_ROOM, TABLES_ROOM));
     assert_eq!(normalise(&tables, NORMAL_ROOM).map(|normal| normal.len()), Ok(NORMAL_ROOM));
     assert_eq!(refused(normalise(&tables, NORMAL_ROOM - 1)), (32, NORMAL_ROOM));
-    let written = replay(&trace, &tables, &order, [TABLES_ROOM, 0]);
+    let written = replay(&trace, &tables, &order, DELAY, [TABLES_ROOM, 0]);
     assert_eq!(written.map(|written| written.tables.len()), Ok(TABLES_ROOM));
-    assert_eq!(refused(replay(&trace, &tables, &order, [TABLES_ROOM - 1, 0])), (32, TABLES_ROOM));
+    assert_eq!(refused(replay(&trace, &tables, &order, DELAY, [TABLES_ROOM - 1, 0])), (32, TABLES_ROOM));
 }
 
 /// The four last lines of a page.
@@ -206,15 +214,15 @@ fn count_lines(counts: [usize; 4]) -> Vec<u8> {
 
 #[test]
 fn the_shortest_and_the_longest_page() {
-    for trace in [&b""[..], b"ev=0 do=bar in=- out=- sw=15\n"] {
-        assert_eq!(page(trace, 244), Ok(count_lines([0; 4])));
-        assert_eq!(refused(page(trace, 243)), (51, 244));
+    for trace in [&b""[..], b"ev=0 do=bar in=- out=- from=0 to=0 sw=15\n"] {
+        assert_eq!(page(trace, DELAY, 244), Ok(count_lines([0; 4])));
+        assert_eq!(refused(page(trace, DELAY, 243)), (51, 244));
     }
     let (trace, room) = (traces::all_racing(), gellunka::PAGE_ROOM);
-    let longest = page(&trace, room).expect("a valid trace");
+    let longest = page(&trace, DELAY, room).expect("a valid trace");
     assert_eq!(longest.len(), room);
     assert!(longest.ends_with(&count_lines([32_640, 0, 0, 32_640])));
-    assert_eq!(refused(page(&trace, room - 1)), (51, room));
+    assert_eq!(refused(page(&trace, DELAY, room - 1)), (51, room));
 }
 
 /// Every two words whose events can race, behind some other events.
@@ -234,11 +242,11 @@ fn every_two_words_on_a_page() {
         for others in [0, 9, 91, 240] {
             let event = |number: usize| {
                 let (word, items) = (words[number % 8], items(number, prio));
-                format!("ev={} do={word} in=- out=- sw={switch} {items}\n", others + number)
+                format!("ev={} do={word} in=- out=- from=0 to=0 sw={switch} {items}\n", others + number)
             };
-            let other = |number: usize| format!("ev={number} do=oth in=- out=-\n");
+            let other = |number: usize| format!("ev={number} do=oth in=- out=- from=0 to=0\n");
             let trace: String = (0..others).map(other).chain((0..16).map(event)).collect();
-            let page = page(trace.as_bytes(), 61 * 112).expect("a valid trace");
+            let page = page(trace.as_bytes(), DELAY, 61 * 112).expect("a valid trace");
             let lines: Vec<&[u8]> = page.chunks(61).collect();
             let words: BTreeSet<&[u8]> = lines[..108].iter().map(|line| &line[11..20]).collect();
             assert_eq!(words.len(), 8 * 8 - 4 - 4, "all but packets and packets, deletes and deletes");
@@ -259,11 +267,13 @@ fn every_two_words_on_a_page() {
 #[test]
 fn many_entries_that_fit() {
     let rooms = [65_536, 8_192];
-    let written = replay(&traces::packets_to_all(), &tables::all_fitting(), &recorded_order(256), rooms);
+    let written =
+        replay(&traces::packets_to_all(), &tables::all_fitting(), &recorded_order(256), DELAY, rooms);
     let answers = written.expect("all valid").answers;
     assert!(answers.len() > 4_096, "{} bytes of answers", answers.len());
     assert!(answers.ends_with(b"\nev=255 hit=65535,256,p60000\n"));
-    let written = replay(&traces::packet_to_511(), &tables::all_fitting(), &recorded_order(256), rooms);
+    let written =
+        replay(&traces::packet_to_511(), &tables::all_fitting(), &recorded_order(256), DELAY, rooms);
     let written = written.expect("all valid");
     assert_eq!(written.answers, b"ev=255 hit=65535,511,p60000\n");
     assert_eq!(written.tables.split(|&b| b == b'\n').count(), 512);
@@ -274,15 +284,15 @@ fn many_entries_that_fit() {
 fn faults_of_one_line() {
     let line = |number: usize, last: &str, length: u8, end: &str| {
         format!(
-            "ev={number} do=deln in=- out=- sw=1 port=* vlan=* src=0a00000{last}/{length} dst=00000000/0 proto=* sport=* dport=*{end}\n"
+            "ev={number} do=deln in=- out=- from=0 to=0 sw=1 port=* vlan=* src=0a00000{last}/{length} dst=00000000/0 proto=* sport=* dport=*{end}\n"
         )
     };
-    let refusal = |text: String| refused(list(text.as_bytes(), 0));
+    let refusal = |text: String| refused(list(text.as_bytes(), DELAY, 0));
     let first = line(0, "0", 8, "");
     assert_eq!(refusal(format!("{first}{}", line(7, "1", 31, " "))), (4, 1));
     assert_eq!(refusal(format!("{first}{}", line(7, "1", 31, ""))), (5, 1));
     assert_eq!(refusal(format!("{first}{}", line(1, "1", 31, ""))), (6, 1));
     // The lowest line comes first, whichever its fault.
     assert_eq!(refusal(format!("{}{}", line(0, "1", 31, ""), line(7, "1", 31, " "))), (6, 0));
-    assert!(list(format!("{first}{}", line(1, "1", 32, "")).as_bytes(), 64).is_ok());
+    assert!(list(format!("{first}{}", line(1, "1", 32, "")).as_bytes(), DELAY, 64).is_ok());
 }

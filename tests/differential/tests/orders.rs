@@ -5,7 +5,7 @@ use cases::print::{tables_text, trace_text};
 use cases::tables::any_tables;
 use cases::traces::{any_length, any_trace};
 use cases::{lengths_around, tables, traces, Random, World};
-use differential::{replay, try_orders, Refused};
+use differential::{replay, try_orders, Refused, DELAY};
 use reference::happens_before;
 use reference::races::racing_pairs;
 use reference::replay::recorded_order;
@@ -20,7 +20,7 @@ const REFUSED: u8 = 2;
 fn by_single_replays(trace: &[u8], tables: &[u8], orders: &[u8], events: usize) -> Vec<u8> {
     let entries = tables.iter().filter(|&&byte| byte == b'\n').count();
     let rooms = [115 * (entries + events), 28 * events];
-    let single = |order: &[u8]| replay(trace, tables, order, rooms);
+    let single = |order: &[u8]| replay(trace, tables, order, DELAY, rooms);
     let recorded = single(&recorded_order(events)).expect("the recorded order is accepted");
     let byte = |order: &[u8]| match single(order) {
         Ok(written) if written == recorded => AGREES,
@@ -49,7 +49,10 @@ fn refused(answer: differential::Answer<Vec<u8>>) -> (usize, usize) {
 
 /// As many events that nothing orders and that do nothing.
 fn others(events: usize) -> Vec<u8> {
-    (0..events).map(|event| format!("ev={event} do=oth in=- out=-\n")).collect::<String>().into_bytes()
+    (0..events)
+        .map(|event| format!("ev={event} do=oth in=- out=- from=0 to=0\n"))
+        .collect::<String>()
+        .into_bytes()
 }
 
 /// All orders of up to five events, and all sequences of up to three bytes.
@@ -58,11 +61,11 @@ fn all_orders_of_small_traces() {
     let mut random = Random::from_seed(301);
     let (mut met, mut allowed) = ([0; 3], 0);
     let mut words = BTreeSet::new();
-    for _ in 0..400 {
+    for _ in 0..700 {
         let world = World { wide: false, switches: random.pick(&[1, 2]) };
         let (length, lines) = (random.below(6), random.below(9));
         let events = any_trace(&mut random, world, length);
-        let before = happens_before(&events);
+        let before = happens_before(&events, DELAY);
         let (_, listed) = racing_pairs(&events, &before);
         let trace = trace_text(&events);
         let tables = tables_text(&any_tables(&mut random, world, lines));
@@ -72,7 +75,7 @@ fn all_orders_of_small_traces() {
         }
         random.shuffle(&mut orders);
         let count = if length == 0 { 0 } else { orders.len() };
-        let bytes = try_orders(&trace, &tables, &orders.concat(), count).expect("all valid");
+        let bytes = try_orders(&trace, &tables, &orders.concat(), DELAY, count).expect("all valid");
         assert_eq!(bytes, by_single_replays(&trace, &tables, &orders.concat(), length));
         for (order, &byte) in orders.iter().zip(&bytes) {
             met[usize::from(byte)] += 1;
@@ -107,14 +110,14 @@ fn hundreds_of_orders() {
                 (any_trace(&mut random, world, length), tables_text(&entries))
             }
         };
-        let (trace, before) = (trace_text(&events), happens_before(&events));
+        let (trace, before) = (trace_text(&events), happens_before(&events, DELAY));
         let (_, listed) = racing_pairs(&events, &before);
         let mut orders = any_orders(&mut random, &before, &listed, 300);
         for _ in 0..20 {
             orders.extend(any_allowed(&mut random, &before, &listed));
         }
         let count = if events.is_empty() { 0 } else { 320 };
-        let bytes = try_orders(&trace, &tables, &orders, count + 5).expect("all valid");
+        let bytes = try_orders(&trace, &tables, &orders, DELAY, count + 5).expect("all valid");
         assert_eq!(bytes, by_single_replays(&trace, &tables, &orders, events.len()));
         assert!(bytes.iter().skip(300).all(|&byte| byte == AGREES), "orders that are allowed");
         bytes.iter().for_each(|&byte| met[usize::from(byte)] += 1);
@@ -130,18 +133,18 @@ fn orders_by_themselves() {
         let world = World { wide: false, switches: random.pick(&[1, 2]) };
         let length = 1 + random.below(30);
         let events = any_trace(&mut random, world, length);
-        let (trace, before) = (trace_text(&events), happens_before(&events));
+        let (trace, before) = (trace_text(&events), happens_before(&events, DELAY));
         let tables = tables_text(&any_tables(&mut random, world, 30));
         let (_, listed) = racing_pairs(&events, &before);
         let orders = any_orders(&mut random, &before, &listed, 40);
-        let bytes = try_orders(&trace, &tables, &orders, 40).expect("all valid");
+        let bytes = try_orders(&trace, &tables, &orders, DELAY, 40).expect("all valid");
         let mut both: Vec<(&[u8], u8)> = orders.chunks(length).zip(bytes).collect();
         for &(order, byte) in &both {
-            assert_eq!(try_orders(&trace, &tables, order, 1), Ok(vec![byte]));
+            assert_eq!(try_orders(&trace, &tables, order, DELAY, 1), Ok(vec![byte]));
         }
         random.shuffle(&mut both);
         let (moved, bytes): (Vec<&[u8]>, Vec<u8>) = both.into_iter().unzip();
-        assert_eq!(try_orders(&trace, &tables, &moved.concat(), 40), Ok(bytes));
+        assert_eq!(try_orders(&trace, &tables, &moved.concat(), DELAY, 40), Ok(bytes));
     }
 }
 
@@ -161,7 +164,7 @@ fn repeated_and_foreign_events() {
                 expected.extend([if changed == recorded { AGREES } else { REFUSED }, AGREES]);
                 orders.extend([changed, recorded.clone()].concat());
             }
-            assert_eq!(try_orders(&trace, b"", &orders, 512), Ok(expected));
+            assert_eq!(try_orders(&trace, b"", &orders, DELAY, 512), Ok(expected));
         }
     }
 }
@@ -171,11 +174,11 @@ fn no_orders_and_no_events() {
     let tables = tables::sorted();
     for tables in [&b""[..], &tables] {
         for room in [0, 1, 9] {
-            assert_eq!(try_orders(b"", tables, b"", room), Ok(Vec::new()));
-            assert_eq!(try_orders(&others(1), tables, b"", room), Ok(Vec::new()));
-            assert_eq!(try_orders(&traces::long_adds(), tables, b"", room), Ok(Vec::new()));
+            assert_eq!(try_orders(b"", tables, b"", DELAY, room), Ok(Vec::new()));
+            assert_eq!(try_orders(&others(1), tables, b"", DELAY, room), Ok(Vec::new()));
+            assert_eq!(try_orders(&traces::long_adds(), tables, b"", DELAY, room), Ok(Vec::new()));
             for length in [1, 2, 255, 256, 257, 65_536] {
-                assert_eq!(refused(try_orders(b"", tables, &vec![0; length], room)), (52, 0));
+                assert_eq!(refused(try_orders(b"", tables, &vec![0; length], DELAY, room)), (52, 0));
             }
         }
     }
@@ -191,19 +194,19 @@ fn lengths_of_orders_and_buffers() {
         for length in (0..=4 * events).chain(around_many) {
             let count = length / events;
             let expected = if length % events == 0 { Ok(vec![AGREES; count]) } else { Err((52, 0)) };
-            let tried = try_orders(&trace, b"", &orders[..length], count);
+            let tried = try_orders(&trace, b"", &orders[..length], DELAY, count);
             assert_eq!(tried.map_err(|refused| (refused.number, refused.place)), expected, "{length}");
             if length % events != 0 {
-                assert_eq!(refused(try_orders(&trace, b"", &orders[..length], 0)), (52, 0));
+                assert_eq!(refused(try_orders(&trace, b"", &orders[..length], DELAY, 0)), (52, 0));
             }
         }
         for count in [0, 1, 2, 17, 101] {
             let orders = &orders[..count * events];
             for room in (0..=count + 3).chain(lengths_around(count)) {
                 if room < count {
-                    assert_eq!(refused(try_orders(&trace, b"", orders, room)), (53, count));
+                    assert_eq!(refused(try_orders(&trace, b"", orders, DELAY, room)), (53, count));
                 } else {
-                    assert_eq!(try_orders(&trace, b"", orders, room), Ok(vec![AGREES; count]));
+                    assert_eq!(try_orders(&trace, b"", orders, DELAY, room), Ok(vec![AGREES; count]));
                 }
             }
         }
@@ -215,7 +218,7 @@ fn lengths_of_orders_and_buffers() {
 fn refusals_in_their_order() {
     let key_twice = tables::sorted().split_inclusive(|&byte| byte == b'\n').next().expect("a line").repeat(2);
     let at = |trace: &[u8], tables: &[u8], orders: &[u8]| {
-        let refused = try_orders(trace, tables, orders, 0).unwrap_err();
+        let refused = try_orders(trace, tables, orders, DELAY, 0).unwrap_err();
         (refused.number, refused.place)
     };
     let (trace, uneven, even) = (others(4), [0; 9], [0; 8]);
@@ -224,7 +227,7 @@ fn refusals_in_their_order() {
     assert_eq!(at(&trace, b"", &uneven), (52, 0));
     assert_eq!(at(&trace, b"", &even), (53, 2));
     assert_eq!(at(&trace, &key_twice, &even), (16, 1));
-    assert_eq!(try_orders(&trace, b"", &even, 2), Ok(vec![REFUSED; 2]));
+    assert_eq!(try_orders(&trace, b"", &even, DELAY, 2), Ok(vec![REFUSED; 2]));
 }
 
 /// 256 events: adds of different keys agree in all orders, of adds of one key the last decides, packets change nothing.
@@ -246,26 +249,28 @@ fn worst_cases() {
     ];
     for trace in all_agree {
         for tables in [&b""[..], &reversed, &fitting] {
-            assert_eq!(try_orders(&trace, tables, &orders, 100), Ok(vec![AGREES; 100]));
+            assert_eq!(try_orders(&trace, tables, &orders, DELAY, 100), Ok(vec![AGREES; 100]));
         }
     }
     let last_decides = |order: &[u8]| if order[255] == 255 { AGREES } else { DIFFERS };
     let expected: Vec<u8> = orders.chunks(256).map(last_decides).collect();
     assert!(expected.contains(&AGREES) && expected.contains(&DIFFERS));
     for trace in [traces::all_racing(), traces::all_racing_modifies()] {
-        assert_eq!(try_orders(&trace, &reversed, &orders, 100).as_ref(), Ok(&expected));
+        assert_eq!(try_orders(&trace, &reversed, &orders, DELAY, 100).as_ref(), Ok(&expected));
     }
-    for trace in [traces::token_chain(), traces::barriers(), traces::only_barriers()] {
-        assert_eq!(try_orders(&trace, &reversed, &orders, 100), Ok(vec![REFUSED; 100]));
+    for trace in
+        [traces::token_chain(), traces::barriers(), traces::only_barriers(), traces::clock_chain(DELAY)]
+    {
+        assert_eq!(try_orders(&trace, &reversed, &orders, DELAY, 100), Ok(vec![REFUSED; 100]));
     }
 }
 
 #[test]
 fn a_megabyte_of_orders() {
     let orders = shuffled_orders(&mut Random::from_seed(305), 256, 4_096);
-    assert_eq!(try_orders(&others(256), b"", &orders, 4_096), Ok(vec![AGREES; 4_096]));
+    assert_eq!(try_orders(&others(256), b"", &orders, DELAY, 4_096), Ok(vec![AGREES; 4_096]));
     let orders = [0, 1, 0, 255].repeat(25_000);
     let expected = [AGREES, REFUSED, AGREES, REFUSED].repeat(25_000);
-    assert_eq!(try_orders(&others(1), b"", &orders, 100_000), Ok(expected));
-    assert_eq!(refused(try_orders(&others(1), b"", &orders, 99_999)), (53, 100_000));
+    assert_eq!(try_orders(&others(1), b"", &orders, DELAY, 100_000), Ok(expected));
+    assert_eq!(refused(try_orders(&others(1), b"", &orders, DELAY, 99_999)), (53, 100_000));
 }

@@ -1,12 +1,13 @@
 //! What the project's programs print, against the reference.
 
+use cases::clocks::{any_delay, any_unsorted_clocks};
 use cases::damage::damaged;
 use cases::orders::{any_damaged, any_orders, any_uneven};
 use cases::print::{tables_text, trace_text};
 use cases::tables::any_tables;
 use cases::traces::{any_length, any_trace};
 use cases::{tables, traces, Random, World};
-use differential::{program, Folder};
+use differential::{program, Folder, DELAY};
 use reference::happens_before;
 use reference::output::{normalised, racelist, racepage, raceshare, replayed, tried};
 use reference::replay::recorded_order;
@@ -49,9 +50,14 @@ fn lists_pages_and_shares() {
     for _ in 0..300 {
         let world = World::any(&mut random);
         let length = any_length(&mut random);
-        let trace = trace_text(&any_trace(&mut random, world, length));
+        let mut events = any_trace(&mut random, world, length);
+        let trace = trace_text(&events);
         check(&trace);
         check(&damaged(&mut random, &trace));
+        if random.one_in(4) {
+            any_unsorted_clocks(&mut random, &mut events);
+            check(&trace_text(&events));
+        }
     }
 }
 
@@ -75,17 +81,19 @@ fn normal_forms() {
 #[test]
 fn replays() {
     let folder = Folder::new("replays");
-    let replay = |trace: &[u8], tables: &[u8], order: Option<&[u8]>| {
+    let replay_at = |trace: &[u8], tables: &[u8], order: Option<&[u8]>, delay: Option<u32>| {
         let mut command = program("replay_trace");
         for (name, bytes) in [("trace", Some(trace)), ("tables", Some(tables)), ("order", order)] {
             if let Some(bytes) = bytes {
                 command.arg(folder.file(name, bytes));
             }
         }
+        command.args(delay.map(|delay| delay.to_string()));
         let printed = command.output().expect("the program ends").stdout;
         let input = [trace, b"\n--\n", tables, b"\n--\n", order.unwrap_or_default()].concat();
-        check("replay_trace", &input, &printed, &replayed(trace, tables, order));
+        check("replay_trace", &input, &printed, &replayed(trace, tables, order, delay.unwrap_or(DELAY)));
     };
+    let replay = |trace: &[u8], tables: &[u8], order: Option<&[u8]>| replay_at(trace, tables, order, None);
     for trace in [
         traces::long_adds(),
         traces::long_checked_adds(),
@@ -110,6 +118,8 @@ fn replays() {
         replay(&trace, &damaged(&mut random, &tables), None);
         let order = any_damaged(&mut random, &recorded_order(length));
         replay(&damaged(&mut random, &trace), &damaged(&mut random, &tables), Some(&order));
+        replay_at(&trace, &tables, Some(&order), Some(any_delay(&mut random)));
+        replay_at(&trace, &tables, Some(&order), Some(random.bits() as u32));
     }
 }
 
@@ -117,11 +127,11 @@ fn replays() {
 #[test]
 fn a_megabyte_of_orders() {
     let folder = Folder::new("megabyte");
-    let (trace, orders) = (b"ev=0 do=oth in=- out=-\n", [0, 0, 0, 1].repeat(262_144));
+    let (trace, orders) = (b"ev=0 do=oth in=- out=- from=0 to=0\n", [0, 0, 0, 1].repeat(262_144));
     let files = [("trace", &trace[..]), ("tables", b""), ("orders", &orders)];
     let arguments = files.map(|(name, bytes)| folder.file(name, bytes));
     let printed = program("replay_orders").args(arguments).output().expect("the program ends").stdout;
-    let expected = tried(trace, b"", &orders);
+    let expected = tried(trace, b"", &orders, DELAY);
     assert!(expected.ends_with(b"order=1048575 result=2\n"));
     let at = printed.iter().zip(&expected).position(|(a, b)| a != b);
     assert!(printed == expected, "{} of {} bytes, first other {at:?}", printed.len(), expected.len());
@@ -130,18 +140,20 @@ fn a_megabyte_of_orders() {
 #[test]
 fn orders() {
     let folder = Folder::new("orders");
-    let try_all = |trace: &[u8], tables: &[u8], orders: &[u8]| {
+    let try_at = |trace: &[u8], tables: &[u8], orders: &[u8], delay: Option<u32>| {
         let mut command = program("replay_orders");
         for (name, bytes) in [("trace", trace), ("tables", tables), ("orders", orders)] {
             command.arg(folder.file(name, bytes));
         }
+        command.args(delay.map(|delay| delay.to_string()));
         let printed = command.output().expect("the program ends").stdout;
         let input = [trace, b"\n--\n", tables, b"\n--\n", orders].concat();
-        check("replay_orders", &input, &printed, &tried(trace, tables, orders));
+        check("replay_orders", &input, &printed, &tried(trace, tables, orders, delay.unwrap_or(DELAY)));
     };
+    let try_all = |trace: &[u8], tables: &[u8], orders: &[u8]| try_at(trace, tables, orders, None);
     try_all(b"", b"", b"");
     try_all(b"", b"", b"\0");
-    let other = b"ev=0 do=oth in=- out=-\n";
+    let other = b"ev=0 do=oth in=- out=- from=0 to=0\n";
     try_all(other, b"", b"");
     try_all(&trace_text(&traces::mixed(4)), b"", &recorded_order(256).repeat(20));
     let mut random = Random::from_seed(204);
@@ -152,8 +164,10 @@ fn orders() {
         let trace = trace_text(&events);
         let tables = tables_text(&any_tables(&mut random, world, lines));
         let count = random.pick(&[0, 1, 11, 101]);
-        let orders = any_orders(&mut random, &happens_before(&events), &[], count);
+        let delay = any_delay(&mut random);
+        let orders = any_orders(&mut random, &happens_before(&events, delay), &[], count);
         try_all(&trace, &tables, &orders);
+        try_at(&trace, &tables, &orders, Some(delay));
         try_all(&trace, &tables, &any_uneven(&mut random, &orders));
         try_all(&damaged(&mut random, &trace), &tables, &orders);
         try_all(&trace, &damaged(&mut random, &tables), &orders);

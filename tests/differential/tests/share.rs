@@ -1,7 +1,7 @@
 //! The share of pairs that commute: library and reference agree, and both give what the numbers of pairs say.
 
 use cases::traces;
-use differential::{assert_share, list, share, trace};
+use differential::{assert_share, list, share, trace, DELAY};
 use reference::table::Origin;
 use reference::{Counts, Share};
 
@@ -15,10 +15,10 @@ const ALL: usize = 256 * 255 / 2;
 fn check(trace: &[u8], counts: [usize; 4], share_of_counts: [usize; 3]) {
     let [pairs, ordered, commuting, listed] = counts;
     let counts = Counts { pairs, ordered, commuting, listed };
-    assert_eq!(list(trace, 65_280).map(|(counts, _)| counts), Ok(counts));
+    assert_eq!(list(trace, DELAY, 65_280).map(|(counts, _)| counts), Ok(counts));
     let [quotient, remainder, divisor] = share_of_counts;
-    assert_eq!(share(trace), Ok(Share { quotient, remainder, divisor }), "{counts:?}");
-    assert_share(trace, counts);
+    assert_eq!(share(trace, DELAY), Ok(Share { quotient, remainder, divisor }), "{counts:?}");
+    assert_share(trace, DELAY, counts);
 }
 
 /// The share of so many pairs that commute and that are listed.
@@ -32,7 +32,7 @@ fn divided(commuting: usize, listed: usize) -> [usize; 3] {
 /// A line of a trace, from its number, its word and what stands behind `out`.
 fn line(number: usize, word: &str, rest: &str) -> String {
     let space = if rest.is_empty() { "" } else { " " };
-    format!("ev={number} do={word} in=- out=-{space}{rest}\n")
+    format!("ev={number} do={word} in=- out=- from=0 to=0{space}{rest}\n")
 }
 
 /// A trace of lines, each a word and what stands behind `out`.
@@ -144,12 +144,12 @@ fn every_mixture_of_sixteen_pairs() {
 #[test]
 fn refused_as_the_list_is() {
     let refused = |trace: &[u8], number: usize, place: usize| {
-        let refusal = share(trace).unwrap_err();
+        let refusal = share(trace, DELAY).unwrap_err();
         assert_eq!((refusal.number, refusal.place), (number, place));
         let line = trace.split(|&byte| byte == b'\n').nth(place).filter(|_| number >= 4);
         assert_eq!(refusal.line, line.unwrap_or_default());
         for room in [0, 65_280] {
-            assert_eq!(list(trace, room).as_ref(), Err(&refusal));
+            assert_eq!(list(trace, DELAY, room).as_ref(), Err(&refusal));
         }
     };
     let others = |events: usize| (0..events).map(|event| line(event, "oth", "")).collect::<String>();
@@ -161,16 +161,19 @@ fn refused_as_the_list_is() {
     refused(&after("ev=3 do=oth in=- out=\n"), 4, 3);
     refused(&after(&line(4, "oth", "")), 5, 3);
     refused(&after(&line(3, "add", &past_prefix)), 6, 3);
-    refused(&after("ev=3 do=oth in=- out=7\nev=4 do=oth in=- out=7\n"), 7, 4);
-    refused(&after("ev=3 do=oth in=7 out=-\nev=4 do=oth in=- out=7\n"), 8, 3);
+    refused(&after("ev=3 do=oth in=- out=7 from=0 to=0\nev=4 do=oth in=- out=7 from=0 to=0\n"), 7, 4);
+    refused(&after("ev=3 do=oth in=7 out=- from=0 to=0\nev=4 do=oth in=- out=7 from=0 to=0\n"), 8, 3);
+    refused(&after("ev=3 do=oth in=- out=- from=1 to=0\n"), 54, 3);
+    let clock = |number, from| format!("ev={number} do=msg in=- out=- from={from} to={from} sw=1\n");
+    refused(&after(&[clock(3, 2_001), clock(4, 0)].concat()), 55, 3);
     // The first that applies: of the whole text, of the lines one by one, of the tokens.
     refused(&[b'x'; 65_536], 1, 0);
     refused(&[b'\n'; 257], 3, 0);
     refused(&after(&line(9, "add", &past_prefix)), 5, 3);
-    refused(&after("ev=3 do=oth in=7 out=7\nev=4 do=oth in=- out=7\nx\n"), 4, 5);
-    refused(&after("ev=3 do=oth in=7 out=7\nev=4 do=oth in=- out=7\n"), 7, 4);
+    refused(&after("ev=3 do=oth in=7 out=7 from=0 to=0\nev=4 do=oth in=- out=7 from=0 to=0\nx\n"), 4, 5);
+    refused(&after("ev=3 do=oth in=7 out=7 from=0 to=0\nev=4 do=oth in=- out=7 from=0 to=0\n"), 7, 4);
     // And nothing else: of a list that wants a longer buffer the share is given.
-    let short = list(&traces::all_racing(), 0).unwrap_err();
+    let short = list(&traces::all_racing(), DELAY, 0).unwrap_err();
     assert_eq!((short.number, short.place), (31, 2 * ALL));
     check(&traces::all_racing(), [ALL, 0, 0, ALL], [0, 0, ALL]);
 }

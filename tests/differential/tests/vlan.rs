@@ -2,7 +2,7 @@
 //! and reference agree, and both do what is said here.
 
 use cases::Random;
-use differential::{assert_listed, list, normalise, replay, trace, Answer};
+use differential::{assert_listed, list, normalise, replay, trace, Answer, DELAY};
 use gellunka::{ANSWERS_ROOM, NORMAL_ROOM, TABLES_ROOM};
 use reference::replay::recorded_order;
 use std::fmt::Display;
@@ -33,7 +33,7 @@ fn every_value_in_tables_and_in_packets() {
         assert_eq!(normalise(typed.as_bytes(), NORMAL_ROOM).as_ref(), Ok(&normal));
         for word in ["pkt", "pout"] {
             let packets: Vec<_> = values().map(|vlan| (word, packet(vlan))).collect();
-            let written = replay(&trace(&packets), typed.as_bytes(), &recorded_order(256), ROOMS);
+            let written = replay(&trace(&packets), typed.as_bytes(), &recorded_order(256), DELAY, ROOMS);
             let written = written.expect("all valid");
             let answer = |(event, vlan)| format!("ev={event} hit=1,1,p{vlan}\n");
             assert_eq!(written.answers, (0..).zip(values()).map(answer).collect::<String>().into_bytes());
@@ -51,7 +51,7 @@ fn every_value_in_writes_and_in_packets() {
         let events: Vec<_> = values().map(add).chain(packets).collect();
         assert_listed(&events, |low, high| low + 128 == high);
         let entry = |vlan| format!("sw=1 prio=1 {} act=drop\n", matching(vlan));
-        let written = replay(&trace(&events), b"", &recorded_order(256), ROOMS).expect("all valid");
+        let written = replay(&trace(&events), b"", &recorded_order(256), DELAY, ROOMS).expect("all valid");
         assert_eq!(written.tables, values().map(entry).collect::<String>().into_bytes());
     }
 }
@@ -90,7 +90,7 @@ fn accepted(vlan: &str, change: impl Fn(&str) -> String) -> ([bool; 8], bool) {
     };
     let in_traces = lines(vlan, &change).map(|line| {
         let text = trace(&[add(0), line]);
-        verdict(refusal(list(&text, 2)), 4, &text)
+        verdict(refusal(list(&text, DELAY, 2)), 4, &text)
     });
     let good = format!("sw=1 prio=1 {} act=drop\n", matching(0));
     let tables = format!("{good}sw=2 prio=1 {} act=drop\n", change(&matching(vlan)));
@@ -217,7 +217,8 @@ fn table_order() {
     for _ in 0..20 {
         assert_eq!(normalise(&text(&typed), NORMAL_ROOM).as_ref(), Ok(&normal));
         let adds: Vec<_> = typed.iter().map(|items| ("add", items.clone())).collect();
-        let written = replay(&trace(&adds), b"", &recorded_order(adds.len()), ROOMS).expect("all valid");
+        let written =
+            replay(&trace(&adds), b"", &recorded_order(adds.len()), DELAY, ROOMS).expect("all valid");
         assert_eq!(written.tables, normal);
         random.shuffle(&mut typed);
     }

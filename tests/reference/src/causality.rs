@@ -2,7 +2,7 @@
 
 use crate::table::{Origin::Received, TableOperation::Packet};
 use crate::tables::SWITCHES;
-use crate::trace::{Event, Operation, PutOn};
+use crate::trace::{is_apart, Event, Operation, PutOn};
 
 /// A set of events of one trace.
 #[derive(Clone, Copy, Debug, Default, PartialEq, Eq)]
@@ -30,29 +30,62 @@ impl EventSet {
     pub fn within(&self, other: &EventSet) -> bool {
         self.0.iter().zip(other.0).all(|(word, all)| word & !all == 0)
     }
+
+    /// The highest event of the set that is not in another one.
+    fn highest_beside(&self, other: &EventSet) -> Option<usize> {
+        let left = |word: usize| self.0[word] & !other.0[word];
+        (0..4).rev().find(|&word| left(word) != 0).map(|word| 64 * word + left(word).ilog2() as usize)
+    }
 }
 
-/// For each event of an accepted trace the set of those that happen before it: every chain of one or
-/// more direct steps.
-pub fn happens_before(events: &[Event]) -> Vec<EventSet> {
-    let put_on = PutOn::of(events).expect("no token is put out twice");
-    let mut switches = [Handled::default(); SWITCHES];
+/// For each event the set of those that happen before it: every chain of one or more direct steps. In an accepted trace
+/// each step leads to a later line; that is not asked for here.
+pub fn happens_before(events: &[Event], delay: u32) -> Vec<EventSet> {
+    let direct = direct_predecessors(events, delay);
     let mut before: Vec<EventSet> = Vec::with_capacity(events.len());
-    for (index, event) in events.iter().enumerate() {
-        let mut set = EventSet::default();
-        for line in event.taken.iter().filter_map(|&token| put_on.line(token)) {
-            set.insert(line);
-            set.extend(&before[line]);
-        }
-        if let Some(switch) = ordered_by_barriers(event) {
-            switches[usize::from(switch)].handle(index, is_barrier(event), &mut set);
+    for steps in &direct {
+        let (mut set, mut done) = (*steps, EventSet::default());
+        while let Some(event) = set.highest_beside(&done) {
+            done.insert(event);
+            match before.get(event) {
+                // All that comes before it is known.
+                Some(all) => {
+                    set.extend(all);
+                    done.extend(all);
+                }
+                None => set.extend(&direct[event]),
+            }
         }
         before.push(set);
     }
     before
 }
 
-/// The events of a switch so far that barriers order, each with all that happen before it.
+/// For each event those that directly precede it, looked up and not asked for pair by pair.
+fn direct_predecessors(events: &[Event], delay: u32) -> Vec<EventSet> {
+    let put_on = PutOn::of(events).expect("no token is put out twice");
+    let mut switches = [Handled::default(); SWITCHES];
+    let all = ByEnd::of(events, |_| true);
+    let messages = ByEnd::of(events, |event| !event.is_received());
+    let mut direct = Vec::with_capacity(events.len());
+    for (index, event) in events.iter().enumerate() {
+        let mut set = EventSet::default();
+        for line in event.taken.iter().filter_map(|&token| put_on.line(token)).filter(|&line| line < index) {
+            set.insert(line);
+        }
+        if let Some(switch) = ordered_by_barriers(event) {
+            switches[usize::from(switch)].handle(index, is_barrier(event), &mut set);
+        }
+        if event.is_handled() {
+            let ends = if event.is_received() { &messages } else { &all };
+            set.extend(ends.before(event.clock.from, delay));
+        }
+        direct.push(set);
+    }
+    direct
+}
+
+/// The events of a switch so far that barriers order.
 #[derive(Clone, Copy, Default)]
 struct Handled {
     /// All of them: these come before a barrier.
@@ -65,20 +98,47 @@ impl Handled {
     /// Puts into an event's set what barriers put before it, and counts the event in.
     fn handle(&mut self, event: usize, is_barrier: bool, set: &mut EventSet) {
         set.extend(if is_barrier { &self.all } else { &self.barriers });
-        let mut with_event = *set;
-        with_event.insert(event);
-        self.all.extend(&with_event);
+        self.all.insert(event);
         if is_barrier {
-            self.barriers.extend(&with_event);
+            self.barriers.insert(event);
         }
     }
 }
 
-/// Whether an event directly precedes one of a later line. [`happens_before`] looks these up instead of
-/// asking for each pair.
-pub fn directly_precedes(earlier: &Event, later: &Event) -> bool {
-    let passes_token = earlier.put.iter().any(|token| later.taken.contains(token));
-    passes_token || barrier_between(earlier, later)
+/// Some events that switches handled, by rising `to`.
+struct ByEnd {
+    ends: Vec<u32>,
+    /// The first of them: none, one, two and so on.
+    first: Vec<EventSet>,
+}
+
+impl ByEnd {
+    fn of(events: &[Event], wanted: impl Fn(&Event) -> bool) -> ByEnd {
+        let wanted = |(_, event): &(usize, &Event)| event.is_handled() && wanted(event);
+        let end = |(index, event): (usize, &Event)| (event.clock.to, index);
+        let mut sorted: Vec<(u32, usize)> = events.iter().enumerate().filter(wanted).map(end).collect();
+        sorted.sort_unstable();
+        let mut first = vec![EventSet::default()];
+        for (count, &(_, event)) in sorted.iter().enumerate() {
+            let mut set = first[count];
+            set.insert(event);
+            first.push(set);
+        }
+        ByEnd { ends: sorted.into_iter().map(|(to, _)| to).collect(), first }
+    }
+
+    /// Those that a `from` lies behind by more than the delay.
+    fn before(&self, from: u32, delay: u32) -> &EventSet {
+        &self.first[self.ends.partition_point(|&to| is_apart(to, from, delay))]
+    }
+}
+
+/// Whether event a directly precedes event b, both by their lines: by a token or a barrier where b is on the later line, or
+/// by the time rule. [`happens_before`] looks these up instead of asking for each pair.
+pub fn directly_precedes(events: &[Event], a: usize, b: usize, delay: u32) -> bool {
+    let (first, second) = (&events[a], &events[b]);
+    let passes_token = first.put.iter().any(|token| second.taken.contains(token));
+    a < b && (passes_token || barrier_between(first, second)) || precedes_in_time(first, second, delay)
 }
 
 /// Whether both are on one switch, both are among writes, `bar`, `msg` and `pout`, and one is `bar`.
@@ -87,6 +147,14 @@ fn barrier_between(a: &Event, b: &Event) -> bool {
         (Some(s), Some(t)) => s == t && (is_barrier(a) || is_barrier(b)),
         _ => false,
     }
+}
+
+/// The time rule: switches handled both, they are not both `pkt`, and b's `from` minus a's `to` is above the delay. Which
+/// line is later is not asked for.
+pub fn precedes_in_time(a: &Event, b: &Event, delay: u32) -> bool {
+    let both_handled = a.is_handled() && b.is_handled();
+    let both_received = a.is_received() && b.is_received();
+    both_handled && !both_received && is_apart(a.clock.to, b.clock.from, delay)
 }
 
 fn is_barrier(event: &Event) -> bool {

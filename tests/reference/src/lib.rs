@@ -25,7 +25,8 @@
 //! against the other.
 //!
 //! Five of the calls write into buffers that the caller lends, as the proved ones do:
-//! [`list`], [`page()`], [`normalise`], [`replay()`] and [`try_orders`]. [`share()`] writes nothing.
+//! [`list`], [`page()`], [`normalise`], [`replay()`] and [`try_orders`]. [`share()`] writes nothing. All but
+//! [`normalise`] take the delay of the time rule.
 
 pub mod causality;
 pub mod commute;

@@ -21,16 +21,17 @@ pub fn try_orders<'a>(
     trace: &'a [u8],
     tables: &'a [u8],
     orders: &[u8],
+    delay: u32,
     out: &mut [u8],
 ) -> Result<usize, Refusal<'a>> {
-    let events = read_trace(trace)?;
+    let events = read_trace(trace, delay)?;
     let tables = read_tables(tables)?;
     let count = order_count(orders.len(), events.len()).ok_or(Refusal::at(52, 0))?;
     check_room(53, count, out.len())?;
     if count == 0 {
         return Ok(0);
     }
-    let before = happens_before(&events);
+    let before = happens_before(&events, delay);
     let outcome = |order: &[u8]| {
         let mut tables = tables.clone();
         let answers = run(&events, order, &mut tables);

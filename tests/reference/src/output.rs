@@ -7,13 +7,22 @@ use crate::refusal::Refusal;
 use crate::replay::{outcome, put_answers};
 use crate::share::{share, Share};
 use crate::tables::{normal_text, normalise};
+use crate::text::milliseconds;
 use crate::write;
 use crate::Counts;
 use std::io::Write;
 
+/// The delay of the programs, where none is given.
+pub const DEFAULT_DELAY: u32 = 2_000;
+
+/// The delay that an argument is: decimal digits without leading zeros, 0 to 4294967295.
+pub fn delay_of(argument: &str) -> Option<u32> {
+    milliseconds(argument)
+}
+
 /// `racelist` of a trace: a `race` line for each listed pair, then the counts line; or the refusal.
 pub fn racelist(trace: &[u8]) -> Vec<u8> {
-    match races(trace) {
+    match races(trace, DEFAULT_DELAY) {
         Ok((counts, pairs)) => {
             let Counts { pairs: all, ordered, commuting, listed } = counts;
             let last = format!("pairs={all} ordered={ordered} commuting={commuting} listed={listed}\n");
@@ -68,12 +77,12 @@ impl<const N: usize> Piece<N> {
 
 /// `racepage` of a trace: the page, or the refusal.
 pub fn racepage(trace: &[u8]) -> Vec<u8> {
-    written(PAGE_ROOM, |room| page(trace, room))
+    written(PAGE_ROOM, |room| page(trace, DEFAULT_DELAY, room))
 }
 
 /// `raceshare` of a trace: the share on one line, or the refusal.
 pub fn raceshare(trace: &[u8]) -> Vec<u8> {
-    match share(trace) {
+    match share(trace, DEFAULT_DELAY) {
         Ok(Share { quotient, remainder, divisor }) => {
             format!("share={quotient} remainder={remainder} divisor={divisor}\n").into_bytes()
         }
@@ -98,10 +107,10 @@ fn written<'a>(room: usize, call: impl FnOnce(&mut [u8]) -> Result<usize, Refusa
     }
 }
 
-/// `replay_trace` of a trace, tables and an order, the recorded one where none is given: the end tables, then the
-/// answers; or the refusal.
-pub fn replayed(trace: &[u8], tables: &[u8], order: Option<&[u8]>) -> Vec<u8> {
-    match outcome(trace, tables, order) {
+/// `replay_trace` of a trace, tables, an order, the recorded one where none is given, and a delay: the end tables, then
+/// the answers; or the refusal.
+pub fn replayed(trace: &[u8], tables: &[u8], order: Option<&[u8]>, delay: u32) -> Vec<u8> {
+    match outcome(trace, tables, order, delay) {
         Ok((tables, answers)) => {
             let mut text = normal_text(&tables);
             put_answers(&mut text, &answers);
@@ -111,11 +120,11 @@ pub fn replayed(trace: &[u8], tables: &[u8], order: Option<&[u8]>) -> Vec<u8> {
     }
 }
 
-/// `replay_orders` of a trace, tables and orders: a line for each order, or the refusal.
-pub fn tried(trace: &[u8], tables: &[u8], orders: &[u8]) -> Vec<u8> {
+/// `replay_orders` of a trace, tables, orders and a delay: a line for each order, or the refusal.
+pub fn tried(trace: &[u8], tables: &[u8], orders: &[u8], delay: u32) -> Vec<u8> {
     // No order is shorter than a byte.
     let mut results = vec![0; orders.len()];
-    match try_orders(trace, tables, orders, &mut results) {
+    match try_orders(trace, tables, orders, delay, &mut results) {
         Ok(count) => {
             let mut text = Vec::with_capacity(count * "order=1048575 result=0\n".len());
             for (order, result) in results[..count].iter().enumerate() {

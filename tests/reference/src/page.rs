@@ -15,9 +15,9 @@ type Line = [u8; COLUMNS + 1];
 pub const PAGE_ROOM: usize = size_of::<Line>() * (256 * 255 / 2 + 4);
 
 /// Writes the page of a trace to the start of `out` and gives its length. A refusal leaves `out` as it was.
-pub fn page<'a>(trace: &'a [u8], out: &mut [u8]) -> Result<usize, Refusal<'a>> {
-    let events = read_trace(trace)?;
-    let (counts, pairs) = racing_pairs(&events, &happens_before(&events));
+pub fn page<'a>(trace: &'a [u8], delay: u32, out: &mut [u8]) -> Result<usize, Refusal<'a>> {
+    let events = read_trace(trace, delay)?;
+    let (counts, pairs) = racing_pairs(&events, &happens_before(&events, delay));
     let last = count_lines(&counts);
     let length = size_of::<Line>() * (pairs.len() + last.len());
     check_room(51, length, out.len())?;

@@ -21,8 +21,8 @@ pub struct Counts {
 
 /// Writes the list of a trace to the start of `out`, two bytes for each listed pair. A refusal
 /// leaves `out` as it was.
-pub fn list<'a>(trace: &'a [u8], out: &mut [u8]) -> Result<Counts, Refusal<'a>> {
-    let (counts, pairs) = races(trace)?;
+pub fn list<'a>(trace: &'a [u8], delay: u32, out: &mut [u8]) -> Result<Counts, Refusal<'a>> {
+    let (counts, pairs) = races(trace, delay)?;
     let bytes = pairs.as_flattened();
     check_room(31, bytes.len(), out.len())?;
     out[..bytes.len()].copy_from_slice(bytes);
@@ -30,9 +30,9 @@ pub fn list<'a>(trace: &'a [u8], out: &mut [u8]) -> Result<Counts, Refusal<'a>> 
 }
 
 /// The counts and the listed pairs of a trace.
-pub(crate) fn races(trace: &[u8]) -> Result<(Counts, Vec<[u8; 2]>), Refusal<'_>> {
-    let events = read_trace(trace)?;
-    Ok(racing_pairs(&events, &happens_before(&events)))
+pub(crate) fn races(trace: &[u8], delay: u32) -> Result<(Counts, Vec<[u8; 2]>), Refusal<'_>> {
+    let events = read_trace(trace, delay)?;
+    Ok(racing_pairs(&events, &happens_before(&events, delay)))
 }
 
 /// A table event, with those that happen before it.

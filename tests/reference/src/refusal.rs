@@ -27,7 +27,7 @@ impl<'a> Refusal<'a> {
 
     /// Whether the place is a line.
     pub fn has_line(&self) -> bool {
-        matches!(self.number, 4..=8 | 14..=16)
+        matches!(self.number, 4..=8 | 14..=16 | 54 | 55)
     }
 }
 

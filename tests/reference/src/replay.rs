@@ -23,10 +23,11 @@ pub fn replay<'a>(
     trace: &'a [u8],
     tables: &'a [u8],
     order: &[u8],
+    delay: u32,
     tables_out: &mut [u8],
     answers_out: &mut [u8],
 ) -> Result<Lengths, Refusal<'a>> {
-    let (tables, answers) = outcome(trace, tables, Some(order))?;
+    let (tables, answers) = outcome(trace, tables, Some(order), delay)?;
     let (end, mut lines) = (normal_text(&tables), Vec::new());
     put_answers(&mut lines, &answers);
     check_room(32, end.len(), tables_out.len())?;
@@ -44,12 +45,13 @@ pub(crate) fn outcome<'a>(
     trace: &'a [u8],
     tables: &'a [u8],
     order: Option<&[u8]>,
+    delay: u32,
 ) -> Result<(Tables, Answers), Refusal<'a>> {
-    let events = read_trace(trace)?;
+    let events = read_trace(trace, delay)?;
     let mut tables = read_tables(tables)?;
     let recorded = recorded_order(events.len());
     let order = order.unwrap_or(&recorded);
-    check_order(order, &happens_before(&events))?;
+    check_order(order, &happens_before(&events, delay))?;
     let answers = run(&events, order, &mut tables);
     Ok((tables, answers))
 }

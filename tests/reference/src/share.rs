@@ -15,8 +15,8 @@ pub struct Share {
 }
 
 /// The share of a trace. All three numbers are 0 where no pair is unordered.
-pub fn share(trace: &[u8]) -> Result<Share, Refusal<'_>> {
-    let (Counts { commuting, listed, .. }, _) = races(trace)?;
+pub fn share(trace: &[u8], delay: u32) -> Result<Share, Refusal<'_>> {
+    let (Counts { commuting, listed, .. }, _) = races(trace, delay)?;
     let (dividend, divisor) = (1000 * commuting, commuting + listed);
     if divisor == 0 {
         return Ok(Share::default());

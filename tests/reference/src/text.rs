@@ -74,17 +74,27 @@ impl<'a> Items<'a> {
     }
 
     /// A decimal number without leading zeros, at most `max`.
-    pub fn number(&mut self, max: u16) -> Option<u16> {
+    fn decimal(&mut self, max: u32) -> Option<u32> {
         let digits = self.rest;
-        let (mut value, mut length) = (0u32, 0);
+        let (mut value, mut length) = (0u64, 0);
         while let Some(digit @ b'0'..=b'9') = digits.get(length) {
-            value = value.wrapping_mul(10).wrapping_add(u32::from(digit - b'0'));
+            value = value.wrapping_mul(10).wrapping_add(u64::from(digit - b'0'));
             length += 1;
         }
         self.rest = &digits[length..];
         let leading_zero = length > 1 && digits[0] == b'0';
-        let is_good = (1..=5).contains(&length) && !leading_zero && value <= u32::from(max);
-        is_good.then_some(value as u16)
+        let is_good = (1..=10).contains(&length) && !leading_zero && value <= u64::from(max);
+        is_good.then_some(value as u32)
+    }
+
+    /// A number of 16 bits, at most `max`.
+    pub fn number(&mut self, max: u16) -> Option<u16> {
+        self.decimal(u32::from(max)).map(|number| number as u16)
+    }
+
+    /// A number of milliseconds.
+    pub fn milliseconds(&mut self) -> Option<u32> {
+        self.decimal(u32::MAX)
     }
 
     /// A number up to 255.
@@ -215,6 +225,12 @@ const DIGITS: [u64; 256] = {
     values
 };
 
+/// The number of milliseconds that a text is, if it is one.
+pub fn milliseconds(text: &str) -> Option<u32> {
+    let mut items = Items::of(text.as_bytes());
+    items.milliseconds().filter(|_| items.is_empty())
+}
+
 #[cfg(test)]
 mod tests {
     use super::*;
@@ -236,6 +252,21 @@ mod tests {
             assert_eq!(number(bad.as_bytes(), 65535), None, "{bad}");
         }
         assert_eq!(number(b"33", 32), None);
+    }
+
+    #[test]
+    fn numbers_of_milliseconds() {
+        for good in [0, 1, 9, 10, 65_536, 999_999_999, 4_294_967_294, u32::MAX] {
+            assert_eq!(milliseconds(&good.to_string()), Some(good));
+        }
+        for bad in ["", "00", "01", "04294967295", "-1", "+1", "1 ", "1.5", "0x1", "*"] {
+            assert_eq!(milliseconds(bad), None, "{bad}");
+        }
+        // Past the range, and past the width of an integer.
+        for bad in ["4294967296", "9999999999", "10000000000", "18446744073709551616", "18446744073709551617"]
+        {
+            assert_eq!(milliseconds(bad), None, "{bad}");
+        }
     }
 
     #[test]

@@ -13,6 +13,17 @@ pub struct Event {
     pub taken: Vec<u16>,
     /// The tokens that were put out.
     pub put: Vec<u16>,
+    /// When it was.
+    pub clock: Clock,
+}
+
+/// When an event was, as far as is known.
+#[derive(Clone, Copy, Debug, Default, PartialEq, Eq)]
+pub struct Clock {
+    /// The earliest millisecond.
+    pub from: u32,
+    /// The latest millisecond.
+    pub to: u32,
 }
 
 /// What an event does, and on which switch.
@@ -36,10 +47,21 @@ impl Event {
             _ => None,
         }
     }
+
+    /// Whether a switch handled it: every word but `oth`.
+    pub fn is_handled(&self) -> bool {
+        self.operation != Operation::Other
+    }
+
+    /// Whether it is a packet that the switch received, `pkt`.
+    pub fn is_received(&self) -> bool {
+        matches!(self.on_table(), Some((_, TableOperation::Packet(Origin::Received, _))))
+    }
 }
 
-/// The events of a trace text, or the first refusal in document 01's order of checks.
-pub fn read_trace(text: &[u8]) -> Result<Vec<Event>, Refusal<'_>> {
+/// The events of a trace text, or the first refusal in document 01's order of checks. `delay` is that of the time
+/// rule.
+pub fn read_trace(text: &[u8], delay: u32) -> Result<Vec<Event>, Refusal<'_>> {
     let lines = text::line_count(text).map_err(|number| Refusal::at(number, 0))?;
     let mut events = Vec::with_capacity(lines);
     let mut items = Items::of(text);
@@ -53,9 +75,14 @@ pub fn read_trace(text: &[u8]) -> Result<Vec<Event>, Refusal<'_>> {
         if !is_clear(&event) {
             return Err(refused(6));
         }
+        if event.clock.from > event.clock.to {
+            return Err(refused(54));
+        }
         events.push(event);
     }
-    check_tokens(&events).map_err(|(number, index)| Refusal::of_line(number, text, index))?;
+    let refused = |(number, index)| Refusal::of_line(number, text, index);
+    check_tokens(&events).map_err(refused)?;
+    check_times(&events, delay).map_err(refused)?;
     Ok(events)
 }
 
@@ -69,9 +96,13 @@ fn read_line(items: &mut Items) -> Option<(u8, Event)> {
     let taken = items.tokens()?;
     items.pass(b" out=")?;
     let put = items.tokens()?;
+    items.pass(b" from=")?;
+    let from = items.milliseconds()?;
+    items.pass(b" to=")?;
+    let to = items.milliseconds()?;
     let operation = read_operation(word, items)?;
     items.end_of_line()?;
-    Some((number, Event { operation, taken, put }))
+    Some((number, Event { operation, taken, put, clock: Clock { from, to } }))
 }
 
 fn read_operation(word: &[u8], items: &mut Items) -> Option<Operation> {
@@ -123,6 +154,51 @@ fn check_tokens(events: &[Event]) -> Result<(), (u8, usize)> {
         Some(index) => Err((8, index)),
         None => Ok(()),
     }
+}
+
+/// 55 with the lowest line that the time rule puts behind a later one.
+fn check_times(events: &[Event], delay: u32) -> Result<(), (u8, usize)> {
+    // From the end, so that the lowest line is found last.
+    let (mut later, mut backward) = (Ends::default(), None);
+    for (index, event) in events.iter().enumerate().rev() {
+        if later.least_before(event).is_some_and(|to| is_apart(to, event.clock.from, delay)) {
+            backward = Some((55, index));
+        }
+        later.count(event);
+    }
+    backward.map_or(Ok(()), Err)
+}
+
+/// The least `to` of some events that switches handled.
+#[derive(Default)]
+struct Ends {
+    /// Of all of them.
+    all: Option<u32>,
+    /// Of those that are no `pkt`.
+    messages: Option<u32>,
+}
+
+impl Ends {
+    /// The least `to` of those that the time rule may put before an event.
+    fn least_before(&self, event: &Event) -> Option<u32> {
+        let ends = if event.is_received() { self.messages } else { self.all };
+        ends.filter(|_| event.is_handled())
+    }
+
+    fn count(&mut self, event: &Event) {
+        let least = |end: Option<u32>| Some(end.map_or(event.clock.to, |end| end.min(event.clock.to)));
+        if event.is_handled() {
+            self.all = least(self.all);
+        }
+        if event.is_handled() && !event.is_received() {
+            self.messages = least(self.messages);
+        }
+    }
+}
+
+/// Whether a `from` lies behind a `to` by more than the delay.
+pub(crate) fn is_apart(to: u32, from: u32, delay: u32) -> bool {
+    u64::from(to) + u64::from(delay) < u64::from(from)
 }
 
 /// The line that puts out each token.

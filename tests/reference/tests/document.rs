@@ -9,12 +9,15 @@ use reference::{
     Lengths, Share, PAGE_ROOM,
 };
 
+/// The delay of the programs.
+const DELAY: u32 = 2_000;
+
 const WORKED: &str = "\
-ev=0 do=pkt in=- out=1 sw=1 port=1 vlan=1 src=0a000001 dst=0a000002 proto=6 sport=4000 dport=80
-ev=1 do=oth in=1 out=2,3,4
-ev=2 do=add in=2 out=- sw=1 prio=10 port=* vlan=* src=00000000/0 dst=0a000002/32 proto=* sport=* dport=* act=p2
-ev=3 do=add in=3 out=- sw=2 prio=10 port=* vlan=* src=00000000/0 dst=0a000002/32 proto=* sport=* dport=* act=p3
-ev=4 do=pkt in=4 out=- sw=2 port=1 vlan=1 src=0a000001 dst=0a000002 proto=6 sport=4000 dport=80
+ev=0 do=pkt in=- out=1 from=0 to=0 sw=1 port=1 vlan=1 src=0a000001 dst=0a000002 proto=6 sport=4000 dport=80
+ev=1 do=oth in=1 out=2,3,4 from=0 to=0
+ev=2 do=add in=2 out=- from=0 to=0 sw=1 prio=10 port=* vlan=* src=00000000/0 dst=0a000002/32 proto=* sport=* dport=* act=p2
+ev=3 do=add in=3 out=- from=0 to=0 sw=2 prio=10 port=* vlan=* src=00000000/0 dst=0a000002/32 proto=* sport=* dport=* act=p3
+ev=4 do=pkt in=4 out=- from=0 to=0 sw=2 port=1 vlan=1 src=0a000001 dst=0a000002 proto=6 sport=4000 dport=80
 ";
 
 const ANY: &str = "port=* vlan=* src=00000000/0 dst=00000000/0 proto=* sport=* dport=*";
@@ -22,7 +25,7 @@ const PACKET: &str = "port=1 vlan=1 src=00000000 dst=00000000 proto=1 sport=1 dp
 
 /// Number, place and line of the refusal of a trace; number 0 where it is accepted.
 fn trace_refusal(text: &str) -> (u8, usize, String) {
-    match read_trace(text.as_bytes()) {
+    match read_trace(text.as_bytes(), DELAY) {
         Ok(_) => (0, 0, String::new()),
         Err(r) => (r.number, r.place, String::from_utf8(r.line.to_vec()).unwrap()),
     }
@@ -41,7 +44,7 @@ fn replayed(trace: &str, tables: &str, order: Option<&[u8]>) -> Result<(String, 
     let recorded = recorded_order(trace.lines().count());
     let (mut end, mut answers) = (vec![0; 65_536], vec![0; 65_536]);
     let order = order.unwrap_or(&recorded);
-    match replay(trace.as_bytes(), tables.as_bytes(), order, &mut end, &mut answers) {
+    match replay(trace.as_bytes(), tables.as_bytes(), order, DELAY, &mut end, &mut answers) {
         Ok(Lengths { tables, answers: length }) => Ok((
             String::from_utf8(end[..tables].to_vec()).unwrap(),
             String::from_utf8(answers[..length].to_vec()).unwrap(),
@@ -54,7 +57,7 @@ fn replayed(trace: &str, tables: &str, order: Option<&[u8]>) -> Result<(String, 
 fn plain_trace(lines: &[(&str, String)]) -> String {
     let line = |(index, (word, rest)): (usize, &(&str, String))| {
         let space = if rest.is_empty() { "" } else { " " };
-        format!("ev={index} do={word} in=- out=-{space}{rest}\n")
+        format!("ev={index} do={word} in=- out=- from=0 to=0{space}{rest}\n")
     };
     lines.iter().enumerate().map(line).collect()
 }
@@ -63,17 +66,17 @@ fn plain_trace(lines: &[(&str, String)]) -> String {
 fn worked_lines() {
     let mut out = [9; 4];
     let counts = Counts { pairs: 2, ordered: 1, commuting: 0, listed: 1 };
-    assert_eq!(list(WORKED.as_bytes(), &mut out), Ok(counts));
+    assert_eq!(list(WORKED.as_bytes(), DELAY, &mut out), Ok(counts));
     assert_eq!(out, [3, 4, 9, 9]);
-    assert_eq!(list(b"", &mut out), Ok(Counts::default()));
-    let short = list(WORKED.as_bytes(), &mut out[..1]).unwrap_err();
+    assert_eq!(list(b"", DELAY, &mut out), Ok(Counts::default()));
+    let short = list(WORKED.as_bytes(), DELAY, &mut out[..1]).unwrap_err();
     assert_eq!((short.number, short.place, short.line), (31, 2, &b""[..]));
 }
 
 /// The page of a trace.
 fn page_of(trace: &str) -> String {
     let mut out = vec![9; PAGE_ROOM + 1];
-    let length = page(trace.as_bytes(), &mut out).unwrap();
+    let length = page(trace.as_bytes(), DELAY, &mut out).unwrap();
     assert!(out[length..].iter().all(|&byte| byte == 9));
     String::from_utf8(out[..length].to_vec()).unwrap()
 }
@@ -98,10 +101,10 @@ fn the_page_of_the_worked_lines() {
     assert_eq!(page_of(WORKED), spelled.concat());
     assert_eq!(page_of(WORKED), pinned(&["  3   4  2 add  pkt     10     -"], [2, 1, 0, 1]));
     let mut out = [9; 5 * 61];
-    let short = page(WORKED.as_bytes(), &mut out[1..]).unwrap_err();
+    let short = page(WORKED.as_bytes(), DELAY, &mut out[1..]).unwrap_err();
     assert_eq!((short.number, short.place, short.line), (51, 5 * 61, &b""[..]));
     // 51 is checked last.
-    let refused = page(b"ev=7 do=oth in=- out=-\n", &mut out[..0]).unwrap_err();
+    let refused = page(b"ev=7 do=oth in=- out=- from=0 to=0\n", DELAY, &mut out[..0]).unwrap_err();
     assert_eq!((refused.number, refused.place), (5, 0));
     assert_eq!(out, [9; 5 * 61]);
 }
@@ -162,7 +165,7 @@ fn numbers_on_a_page() {
 #[test]
 fn counts_on_a_page() {
     assert_eq!(page_of(""), pinned(&[], [0, 0, 0, 0]));
-    assert_eq!(page_of("ev=0 do=oth in=- out=-\n"), pinned(&[], [0, 0, 0, 0]));
+    assert_eq!(page_of("ev=0 do=oth in=- out=- from=0 to=0\n"), pinned(&[], [0, 0, 0, 0]));
     // 12 packets commute, and a barrier orders two deletes.
     let delete = || ("deln", format!("sw=1 {ANY}"));
     let mut lines = vec![("pkt", format!("sw=2 {PACKET}")); 12];
@@ -178,9 +181,9 @@ fn counts_on_a_page() {
 
 /// The share of an accepted trace, with the counts that it comes from.
 fn share_of(trace: &str) -> ([usize; 4], Share) {
-    let counts = list(trace.as_bytes(), &mut vec![0; 65_280]).unwrap();
+    let counts = list(trace.as_bytes(), DELAY, &mut vec![0; 65_280]).unwrap();
     let Counts { pairs, ordered, commuting, listed } = counts;
-    ([pairs, ordered, commuting, listed], share(trace.as_bytes()).unwrap())
+    ([pairs, ordered, commuting, listed], share(trace.as_bytes(), DELAY).unwrap())
 }
 
 fn shared(quotient: usize, remainder: usize, divisor: usize) -> Share {
@@ -219,13 +222,13 @@ fn shares() {
 #[test]
 fn a_share_is_refused_as_the_list_is() {
     let refusal = |trace: &str| {
-        let refused = share(trace.as_bytes()).unwrap_err();
-        assert_eq!(list(trace.as_bytes(), &mut [0; 65_280]), Err(refused));
+        let refused = share(trace.as_bytes(), DELAY).unwrap_err();
+        assert_eq!(list(trace.as_bytes(), DELAY, &mut [0; 65_280]), Err(refused));
         (refused.number, refused.place, String::from_utf8(refused.line.to_vec()).unwrap())
     };
     assert_eq!(refusal(&"\n".repeat(65_536)), (1, 0, String::new()));
     assert_eq!(refusal(WORKED.trim_end()), (2, 0, String::new()));
-    let line = "ev=7 do=oth in=- out=-";
+    let line = "ev=7 do=oth in=- out=- from=0 to=0";
     assert_eq!(refusal(&format!("{WORKED}{line}\n")), (5, 5, line.to_owned()));
 }
 
@@ -258,31 +261,31 @@ fn prefix_bits() {
 
 #[test]
 fn malformed_lines() {
-    let line = "ev=0 do=oth in=1,2 out=3";
+    let line = "ev=0 do=oth in=1,2 out=3 from=0 to=0";
     assert_eq!(trace_refusal(&format!("{line}\n")).0, 0);
     let bad = [
         "",
-        " ev=0 do=oth in=- out=-",
-        "ev=0 do=oth in=- out=- ",
-        "ev=0  do=oth in=- out=-",
-        "ev=0 do=oth in=- out=-\r",
-        "ev=0 do=oth in=- out=-\0",
-        "ev=0 do=oth in= out=-",
-        "ev=0 do=oth in=1,2,3,4,5 out=-",
-        "ev=0 do=oth in=2,1 out=-",
-        "ev=0 do=oth in=1,1 out=-",
-        "ev=0 do=oth in=1, out=-",
-        "ev=0 do=oth in=65536 out=-",
-        "ev=0 do=oth out=- in=-",
-        "ev=0 do=oth in=- out=- sw=0",
-        "ev=0 do=Oth in=- out=-",
-        "ev=256 do=oth in=- out=-",
-        "ev=00 do=oth in=- out=-",
-        "ev=0 do=bar in=- out=- sw=16",
-        "ev=0 do=bar in=- out=-",
-        "ev=0 do=msg in=- out=- sw=1 prio=1",
-        "ev=0 do=poutin=- out=- sw=1 port=1 vlan=1 src=00000000 dst=00000000 proto=1 sport=1 dport=1",
-        "ev=1 do=oth in=- out=", // 4 before 5
+        " ev=0 do=oth in=- out=- from=0 to=0",
+        "ev=0 do=oth in=- out=- from=0 to=0 ",
+        "ev=0  do=oth in=- out=- from=0 to=0",
+        "ev=0 do=oth in=- out=- from=0 to=0\r",
+        "ev=0 do=oth in=- out=- from=0 to=0\0",
+        "ev=0 do=oth in= out=- from=0 to=0",
+        "ev=0 do=oth in=1,2,3,4,5 out=- from=0 to=0",
+        "ev=0 do=oth in=2,1 out=- from=0 to=0",
+        "ev=0 do=oth in=1,1 out=- from=0 to=0",
+        "ev=0 do=oth in=1, out=- from=0 to=0",
+        "ev=0 do=oth in=65536 out=- from=0 to=0",
+        "ev=0 do=oth out=- in=- from=0 to=0",
+        "ev=0 do=oth in=- out=- from=0 to=0 sw=0",
+        "ev=0 do=Oth in=- out=- from=0 to=0",
+        "ev=256 do=oth in=- out=- from=0 to=0",
+        "ev=00 do=oth in=- out=- from=0 to=0",
+        "ev=0 do=bar in=- out=- from=0 to=0 sw=16",
+        "ev=0 do=bar in=- out=- from=0 to=0",
+        "ev=0 do=msg in=- out=- from=0 to=0 sw=1 prio=1",
+        "ev=0 do=poutin=- out=- from=0 to=0 sw=1 port=1 vlan=1 src=00000000 dst=00000000 proto=1 sport=1 dport=1",
+        "ev=1 do=oth in=- out= from=0 to=0", // 4 before 5
     ];
     for bad in bad {
         assert_eq!(trace_refusal(&format!("{bad}\n")), (4, 0, bad.to_owned()), "{bad}");
@@ -369,7 +372,7 @@ fn every_word_is_read() {
         ("msg", "sw=1".to_owned()),
         ("oth", String::new()),
     ]);
-    assert_eq!(read_trace(trace.as_bytes()).unwrap().len(), 11);
+    assert_eq!(read_trace(trace.as_bytes(), DELAY).unwrap().len(), 11);
 }
 
 #[test]
@@ -378,7 +381,7 @@ fn both_words_of_a_packet() {
     for (word, origin) in [("pkt", Origin::Received), ("pout", Origin::SentOut)] {
         let operation = TableOperation::Packet(origin, packet);
         let trace = plain_trace(&[(word, format!("sw=7 {PACKET}"))]);
-        let events = read_trace(trace.as_bytes()).unwrap();
+        let events = read_trace(trace.as_bytes(), DELAY).unwrap();
         assert_eq!(events[0].operation, Operation::Table(7, operation));
         assert_eq!((operation.word(), operation.priority()), (word, None));
     }
@@ -386,10 +389,11 @@ fn both_words_of_a_packet() {
 
 #[test]
 fn refusals_of_the_whole_text() {
-    let oth = |n: usize| -> String { (0..n).map(|i| format!("ev={i} do=oth in=- out=-\n")).collect() };
+    let oth =
+        |n: usize| -> String { (0..n).map(|i| format!("ev={i} do=oth in=- out=- from=0 to=0\n")).collect() };
     assert_eq!(trace_refusal(&oth(256)).0, 0);
     assert_eq!(trace_refusal(&oth(257)), (3, 0, String::new()));
-    assert_eq!(trace_refusal("ev=0 do=oth in=- out=-").0, 2);
+    assert_eq!(trace_refusal("ev=0 do=oth in=- out=- from=0 to=0").0, 2);
     assert_eq!(trace_refusal(&"\n".repeat(65_536)).0, 1);
     assert_eq!(trace_refusal(&"\n".repeat(65_535)).0, 3);
     assert_eq!(trace_refusal(&"x".repeat(65_535)).0, 2);
@@ -403,8 +407,9 @@ fn refusals_of_the_whole_text() {
 #[test]
 fn tokens_twice_and_too_early() {
     let trace = |tokens: &[(&str, &str)]| -> String {
-        let line =
-            |(i, (taken, put)): (usize, &(&str, &str))| format!("ev={i} do=oth in={taken} out={put}\n");
+        let line = |(i, (taken, put)): (usize, &(&str, &str))| {
+            format!("ev={i} do=oth in={taken} out={put} from=0 to=0\n")
+        };
         tokens.iter().enumerate().map(line).collect()
     };
     let at = |tokens: &[(&str, &str)]| {
@@ -418,12 +423,15 @@ fn tokens_twice_and_too_early() {
     // 7 over the trace before 8, also where 8 stands on an earlier line.
     assert_eq!(at(&[("1", "-"), ("-", "1"), ("-", "1")]), (7, 2));
     // 5 on a line before 7 over the trace.
-    assert_eq!(trace_refusal("ev=0 do=oth in=- out=1\nev=0 do=oth in=- out=1\n").0, 5);
+    assert_eq!(
+        trace_refusal("ev=0 do=oth in=- out=1 from=0 to=0\nev=0 do=oth in=- out=1 from=0 to=0\n").0,
+        5
+    );
 }
 
 /// The events that happen before each event of a trace.
 fn all_before(trace: &str) -> Vec<Vec<usize>> {
-    let before = happens_before(&read_trace(trace.as_bytes()).unwrap());
+    let before = happens_before(&read_trace(trace.as_bytes(), DELAY).unwrap(), DELAY);
     let events = before.len();
     before.iter().map(|set| (0..events).filter(|&event| set.contains(event)).collect()).collect()
 }
@@ -484,9 +492,9 @@ fn a_barrier_in_front_of_a_packet() {
     };
     let counts = Counts { pairs: 1, ..Counts::default() };
     let mut out = [9; 2];
-    assert_eq!(list(trace("pout").as_bytes(), &mut out), Ok(Counts { ordered: 1, ..counts }));
+    assert_eq!(list(trace("pout").as_bytes(), DELAY, &mut out), Ok(Counts { ordered: 1, ..counts }));
     assert_eq!(out, [9, 9]);
-    assert_eq!(list(trace("pkt").as_bytes(), &mut out), Ok(Counts { listed: 1, ..counts }));
+    assert_eq!(list(trace("pkt").as_bytes(), DELAY, &mut out), Ok(Counts { listed: 1, ..counts }));
     assert_eq!(out, [0, 2]);
     assert_eq!(replayed(&trace("pout"), "", Some(&[0, 2, 1])), Err((22, 1)));
     assert!(replayed(&trace("pkt"), "", Some(&[2, 0, 1])).is_ok());
@@ -495,19 +503,19 @@ fn a_barrier_in_front_of_a_packet() {
 #[test]
 fn a_chain_joins_a_packet_through_tokens() {
     let trace = format!(
-        "ev=0 do=deln in=- out=- sw=1 {ANY}\nev=1 do=bar in=- out=1 sw=1\n\
-         ev=2 do=oth in=1 out=2\nev=3 do=pkt in=2 out=- sw=1 {PACKET}\n"
+        "ev=0 do=deln in=- out=- from=0 to=0 sw=1 {ANY}\nev=1 do=bar in=- out=1 from=0 to=0 sw=1\n\
+         ev=2 do=oth in=1 out=2 from=0 to=0\nev=3 do=pkt in=2 out=- from=0 to=0 sw=1 {PACKET}\n"
     );
     let mut out = [0; 2];
     let counts = Counts { pairs: 1, ordered: 1, commuting: 0, listed: 0 };
-    assert_eq!(list(trace.as_bytes(), &mut out), Ok(counts));
+    assert_eq!(list(trace.as_bytes(), DELAY, &mut out), Ok(counts));
 }
 
 #[test]
 fn a_chain_goes_on_from_a_packet_sent_out() {
     let trace = format!(
-        "ev=0 do=deln in=- out=- sw=1 {ANY}\nev=1 do=bar in=- out=- sw=1\n\
-         ev=2 do=pout in=- out=1 sw=1 {PACKET}\nev=3 do=pkt in=1 out=- sw=1 {PACKET}\n"
+        "ev=0 do=deln in=- out=- from=0 to=0 sw=1 {ANY}\nev=1 do=bar in=- out=- from=0 to=0 sw=1\n\
+         ev=2 do=pout in=- out=1 from=0 to=0 sw=1 {PACKET}\nev=3 do=pkt in=1 out=- from=0 to=0 sw=1 {PACKET}\n"
     );
     assert_eq!(all_before(&trace), [vec![], vec![0], vec![0, 1], vec![0, 1, 2]]);
 }
@@ -585,8 +593,8 @@ fn each_operation_replayed() {
 
 #[test]
 fn orders_refused() {
-    let trace = "ev=0 do=oth in=- out=1\nev=1 do=oth in=1 out=2\nev=2 do=oth in=2 out=-\n";
-    let before = happens_before(&read_trace(trace.as_bytes()).unwrap());
+    let trace = "ev=0 do=oth in=- out=1 from=0 to=0\nev=1 do=oth in=1 out=2 from=0 to=0\nev=2 do=oth in=2 out=- from=0 to=0\n";
+    let before = happens_before(&read_trace(trace.as_bytes(), DELAY).unwrap(), DELAY);
     let refusal = |order: &[u8]| match check_order(order, &before) {
         Ok(()) => (0, 0),
         Err(r) => (r.number, r.place),
@@ -612,7 +620,7 @@ fn refusals_of_replay_in_their_order() {
     let order = recorded_order(5);
     let mut at = |short: usize, shorter: usize| {
         let (tables, room) = (&mut tables[short..], &mut room[shorter..]);
-        let answer = replay(WORKED.as_bytes(), b"", &order, tables, room);
+        let answer = replay(WORKED.as_bytes(), b"", &order, DELAY, tables, room);
         if answer.is_err() {
             assert!(tables.iter().chain(room.iter()).all(|&byte| byte == 7));
         }
@@ -637,7 +645,7 @@ fn the_most_that_is_written() {
 /// The bytes of some orders, into a buffer that is longer by two; or number and place of the refusal.
 fn tried(trace: &str, tables: &str, orders: &[u8]) -> Result<Vec<u8>, (u8, usize)> {
     let mut out = vec![9; orders.len() + 2];
-    match try_orders(trace.as_bytes(), tables.as_bytes(), orders, &mut out) {
+    match try_orders(trace.as_bytes(), tables.as_bytes(), orders, DELAY, &mut out) {
         Ok(count) => {
             assert!(out[count..].iter().all(|&byte| byte == 9));
             out.truncate(count);
@@ -689,7 +697,8 @@ fn orders_that_differ_in_one_way() {
     let answers = plain_trace(&[add("p1"), packet, delete]);
     assert_eq!(tried(&answers, "", &[1, 0, 2, 0, 2, 1, 0, 1, 2]), Ok(vec![1, 1, 0]));
     // On another switch nothing is met.
-    let apart = answers.replacen("do=pkt in=- out=- sw=1", "do=pkt in=- out=- sw=0", 1);
+    let apart =
+        answers.replacen("do=pkt in=- out=- from=0 to=0 sw=1", "do=pkt in=- out=- from=0 to=0 sw=0", 1);
     assert_eq!(tried(&apart, "", &[1, 0, 2, 0, 2, 1, 2, 1, 0]), Ok(vec![0, 0, 1]));
 }
 
@@ -705,7 +714,7 @@ fn no_orders_and_uneven_lengths() {
         assert_eq!(tried(WORKED, "", &orders), expected, "{length}");
     }
     // Any length is one of orders of one event.
-    assert_eq!(tried("ev=0 do=oth in=- out=-\n", "", &[0, 1, 0, 255]), Ok(vec![0, 2, 0, 2]));
+    assert_eq!(tried("ev=0 do=oth in=- out=- from=0 to=0\n", "", &[0, 1, 0, 255]), Ok(vec![0, 2, 0, 2]));
 }
 
 #[test]
@@ -714,7 +723,7 @@ fn refusals_of_many_orders_in_their_order() {
     let twice = format!("{rule}{rule}");
     let mut out = [9; 3];
     let mut at = |trace: &str, tables: &str, orders: &[u8], room: usize| {
-        let answer = try_orders(trace.as_bytes(), tables.as_bytes(), orders, &mut out[..room]);
+        let answer = try_orders(trace.as_bytes(), tables.as_bytes(), orders, DELAY, &mut out[..room]);
         let answer = answer.map_err(|r| (r.number, r.place, String::from_utf8(r.line.to_vec()).unwrap()));
         if answer.is_err() {
             assert_eq!(out, [9; 3]);

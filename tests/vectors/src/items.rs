@@ -4,6 +4,7 @@
 //! | item left out | what it is then |
 //! |---|---|
 //! | `in`, `out` | `-` |
+//! | `from`, `to` | 0 |
 //! | a field of a match | any |
 //! | a field of a packet | as in document 01's worked lines |
 //!
@@ -12,7 +13,7 @@
 
 use reference::flow::{Action, Entry, Exact, Key, Match, Packet, Prefix};
 use reference::table::{Origin, TableOperation};
-use reference::trace::{Event, Operation};
+use reference::trace::{Clock, Event, Operation};
 use std::collections::BTreeMap;
 use std::str::FromStr;
 
@@ -26,6 +27,7 @@ pub fn event(word: &str, items: &[&str]) -> Result<Event, String> {
         Ok(Event {
             taken: items.or("in", Vec::new(), tokens)?,
             put: items.or("out", Vec::new(), tokens)?,
+            clock: Clock { from: items.or("from", 0, number)?, to: items.or("to", 0, number)? },
             operation: items.operation(word)?,
         })
     })
@@ -192,16 +194,17 @@ mod tests {
 
     #[test]
     fn what_is_left_out_is_as_by_default() {
-        assert_eq!(line("oth", &[]).unwrap(), "ev=7 do=oth in=- out=-");
+        assert_eq!(line("oth", &[]).unwrap(), "ev=7 do=oth in=- out=- from=0 to=0");
+        assert_eq!(line("oth", &["to=9", "from=7"]).unwrap(), "ev=7 do=oth in=- out=- from=7 to=9");
         for word in ["pkt", "pout"] {
             assert_eq!(
                 line(word, &["sw=2", "in=4"]).unwrap(),
-                format!("ev=7 do={word} in=4 out=- sw=2 port=1 vlan=1 src=0a000001 dst=0a000002 proto=6 sport=4000 dport=80")
+                format!("ev=7 do={word} in=4 out=- from=0 to=0 sw=2 port=1 vlan=1 src=0a000001 dst=0a000002 proto=6 sport=4000 dport=80")
             );
         }
         assert_eq!(
             line("add", &["sw=1", "prio=10", "dst=0a000002/32", "act=p2"]).unwrap(),
-            "ev=7 do=add in=- out=- sw=1 prio=10 port=* vlan=* src=00000000/0 dst=0a000002/32 proto=* sport=* dport=* act=p2"
+            "ev=7 do=add in=- out=- from=0 to=0 sw=1 prio=10 port=* vlan=* src=00000000/0 dst=0a000002/32 proto=* sport=* dport=* act=p2"
         );
     }
 

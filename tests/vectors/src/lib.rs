@@ -16,11 +16,16 @@ pub mod tree;
 
 use cases::orders::{all_orders, is_allowed};
 use notation::{Case, Kind, Reader};
-use reference::output::{normalised, racelist, racepage, raceshare, replayed, tried};
+use reference::output::{normalised, racelist, racepage, raceshare, replayed, tried, DEFAULT_DELAY};
 use reference::replay::recorded_order;
 use reference::{happens_before, read_trace};
 use std::path::Path;
 use tree::{Content, File};
+
+/// The delay that `replay_trace` is called with. `replay_orders` is called with none.
+const REPLAY_DELAY: u32 = 3_000;
+/// A delay that rules out no race of the rehearsals.
+const LONG_DELAY: u32 = 60_000;
 
 /// All vectors.
 pub struct Vectors {
@@ -83,10 +88,12 @@ impl Vectors {
             files.extend(cases.iter().map(|case| data_file(crate_name, case)));
             files.push(stored(crate_name, "stdout", output));
         }
-        for (crate_name, cases) in
-            [("replay_trace", &self.replay_trace), ("replay_orders", &self.replay_orders)]
-        {
-            let arguments = cases.iter().map(|case| case.name.clone() + "\n");
+        for (crate_name, cases, delay) in [
+            ("replay_trace", &self.replay_trace, Some(REPLAY_DELAY)),
+            ("replay_orders", &self.replay_orders, None),
+        ] {
+            let names = cases.iter().map(|case| case.name.clone());
+            let arguments = names.chain(delay.map(|delay| delay.to_string())).map(|argument| argument + "\n");
             files.push(stored(crate_name, "args", arguments.collect::<String>().into_bytes()));
         }
         let trace = text_of(&self.list_test, "packet_early");
@@ -107,19 +114,27 @@ impl Vectors {
         let rehearsals = self.list_test.iter().filter(|case| case.kind == Kind::Named);
         files.extend(rehearsals.flat_map(|case| [example_page(case), example_share(case)]));
         for name in ["packet_early", "packet_early_repaired"] {
-            files.extend(example_orders(name, &text_of(&self.list_test, name)));
+            let trace = text_of(&self.list_test, name);
+            let orders = orders_at(&trace, DEFAULT_DELAY);
+            files.push(example_results(name, &trace, &orders, DEFAULT_DELAY));
+            files.push(example_orders(name, orders));
         }
+        let trace = text_of(&self.list_test, "clock_apart");
+        let orders = orders_at(&trace, LONG_DELAY);
+        files.push(example_results("clock_apart", &trace, &orders, DEFAULT_DELAY));
+        files.push(example_results(&format!("clock_apart_{LONG_DELAY}"), &trace, &orders, LONG_DELAY));
+        files.push(example_orders("clock_apart", orders));
         files
     }
 
     fn replay_trace_output(&self) -> Vec<u8> {
         let text = |name| text_of(&self.replay_trace, name);
-        replayed(&text("trace"), &text("tables"), Some(&text("order")))
+        replayed(&text("trace"), &text("tables"), Some(&text("order")), REPLAY_DELAY)
     }
 
     fn replay_orders_output(&self) -> Vec<u8> {
         let text = |name| text_of(&self.replay_orders, name);
-        tried(&text("trace"), &text("tables"), &text("orders"))
+        tried(&text("trace"), &text("tables"), &text("orders"), DEFAULT_DELAY)
     }
 
     /// What the programs' sources and `examples/README.md` say otherwise.
@@ -188,18 +203,23 @@ fn example_share(case: &Case) -> File {
     File { path, title, content: Content::Bytes(raceshare(&case.bytes())) }
 }
 
-/// All orders of an example's trace that keep happens-before, rising, and then the recorded one reversed; and what they
-/// do to empty tables.
-fn example_orders(name: &str, trace: &[u8]) -> [File; 2] {
-    let before = happens_before(&read_trace(trace).expect("a rehearsal is accepted"));
+/// All orders of an example's trace that keep happens-before at a delay, rising, and then the recorded one reversed.
+fn orders_at(trace: &[u8], delay: u32) -> Vec<u8> {
+    let before = happens_before(&read_trace(trace, delay).expect("a rehearsal is accepted"), delay);
     let mut orders = all_orders(before.len());
     orders.retain(|order| is_allowed(order, &before, &[]));
     orders.sort_unstable();
     orders.push(recorded_order(before.len()).into_iter().rev().collect());
-    let orders = orders.concat();
-    let results = tried(trace, b"", &orders);
-    [("orders", "orders", orders), ("results", "what the orders do", results)].map(|(end, what, bytes)| {
-        let (path, title) = (format!("examples/{name}.{end}"), format!("{what} of {name}"));
-        File { path, title, content: Content::Bytes(bytes) }
-    })
+    orders.concat()
+}
+
+fn example_orders(name: &str, orders: Vec<u8>) -> File {
+    let (path, title) = (format!("examples/{name}.orders"), format!("orders of {name}"));
+    File { path, title, content: Content::Bytes(orders) }
+}
+
+/// What orders of an example's trace do to empty tables at a delay.
+fn example_results(name: &str, trace: &[u8], orders: &[u8], delay: u32) -> File {
+    let (path, title) = (format!("examples/{name}.results"), format!("what the orders do of {name}"));
+    File { path, title, content: Content::Bytes(tried(trace, b"", orders, delay)) }
 }

@@ -273,15 +273,19 @@ mod tests {
     #[test]
     fn names() {
         let text = "# comment\ntext two\n oth\n oth out=1\n\nfile some A title.\ncase first\n oth\ncase second\n as two\n";
-        let oth = r"ev=0 do=oth in=- out=-\n";
-        let expected = [("some", ""), ("00", oth), ("01", &format!(r"{oth}ev=1 do=oth in=- out=1\n"))];
+        let oth = r"ev=0 do=oth in=- out=- from=0 to=0\n";
+        let expected =
+            [("some", ""), ("00", oth), ("01", &format!(r"{oth}ev=1 do=oth in=- out=1 from=0 to=0\n"))];
         assert_eq!(files(text).unwrap(), expected.map(|(name, text)| (name.to_owned(), text.to_owned())));
     }
 
     #[test]
     fn words_that_stand_for_others() {
         let text = "let BASE = sw=1\nlet BAR = bar BASE\nBAR\nBAR sw=2 | $ => BAR";
-        assert_eq!(file(text), r"ev=0 do=bar in=- out=- sw=1\nev=1 do=bar in=- out=- sw=2BAR\n");
+        assert_eq!(
+            file(text),
+            r"ev=0 do=bar in=- out=- from=0 to=0 sw=1\nev=1 do=bar in=- out=- from=0 to=0 sw=2BAR\n"
+        );
     }
 
     #[test]
@@ -299,7 +303,7 @@ mod tests {
         assert_eq!(file("raw a\nraw b\nraw c\npick 2 0 1\nreversed"), r"b\na\nc\n");
         assert_eq!(
             file("for i = 1..2: oth out={i}\nline 1: oth in=1\nline 0 | ev=00 | out=7"),
-            r"ev=00 do=oth in=- out=7\nev=1 do=oth in=1 out=-\n"
+            r"ev=00 do=oth in=- out=7 from=0 to=0\nev=1 do=oth in=1 out=- from=0 to=0\n"
         );
     }
 

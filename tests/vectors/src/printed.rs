@@ -1,8 +1,8 @@
-//! What the test programs print of their data files, worked out by the reference. Each function follows
-//! the `main.rt` of the crate that it is named after in what is printed around the answers.
+//! What the test programs print of their data files, at the delay 2000, worked out by the reference. Each function
+//! follows the `main.rt` of the crate that it is named after in what is printed around the answers.
 
 use crate::notation::{Case, Kind};
-use reference::output::{normalised, racelist, refused, replayed};
+use reference::output::{normalised, racelist, refused, replayed, DEFAULT_DELAY};
 use reference::replay::recorded_order;
 use reference::{normalise, read_trace, replay, Lengths};
 
@@ -16,7 +16,7 @@ pub fn trace_test(cases: &[Case]) -> Vec<u8> {
     let mut out = Vec::new();
     for case in cases {
         out.extend(format!("text {}\n", case.name).bytes());
-        match read_trace(&case.bytes()) {
+        match read_trace(&case.bytes(), DEFAULT_DELAY) {
             Ok(events) => out.extend(format!("accepted events={}\n", events.len()).bytes()),
             Err(refusal) => out.extend(refused(&refusal)),
         }
@@ -67,12 +67,12 @@ pub fn replay_test(cases: &[Case]) -> Vec<u8> {
         let trace = text(format!("{set}_trace"));
         let (tables, orders) = (text(format!("{set}_tables")), text(format!("{set}_orders")));
         out.extend(format!("trace {set}\norder recorded\n").bytes());
-        out.extend(replayed(&trace, &tables, None));
+        out.extend(replayed(&trace, &tables, None, DEFAULT_DELAY));
         out.extend(replayed_short(&trace, &tables));
         let lines = orders.split_inclusive(|&byte| byte == b'\n').filter_map(|line| line.strip_suffix(b"\n"));
         for (index, order) in lines.enumerate() {
             out.extend(format!("order {index}\n").bytes());
-            out.extend(replayed(&trace, &tables, Some(order)));
+            out.extend(replayed(&trace, &tables, Some(order), DEFAULT_DELAY));
         }
     }
     out
@@ -86,11 +86,11 @@ pub fn replay_sets(cases: &[Case]) -> impl Iterator<Item = &str> {
 /// The recorded order into a tables buffer and then into an answers buffer that is a byte too short, and
 /// each time the first byte of the tables buffer, which is as it was.
 fn replayed_short(trace: &[u8], tables: &[u8]) -> Vec<u8> {
-    let events = read_trace(trace).map_or(0, |events| events.len());
+    let events = read_trace(trace, DEFAULT_DELAY).map_or(0, |events| events.len());
     let order = recorded_order(events);
     let run = |room: Lengths| {
         let (mut ends, mut answers) = (vec![0; room.tables], vec![0; room.answers]);
-        let result = replay(trace, tables, &order, &mut ends, &mut answers);
+        let result = replay(trace, tables, &order, DEFAULT_DELAY, &mut ends, &mut answers);
         let answer = result.map_err(|refusal| refused(&refusal));
         let first = ends.first().map_or(String::new(), |first| format!("first={first}\n"));
         (answer, first)

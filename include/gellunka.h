@@ -29,6 +29,9 @@ extern "C" {
 #define GELLUNKA_MAX_BYTES 65535 /* of a trace or a table text */
 #define GELLUNKA_MAX_LINES 256   /* of a trace or a table text */
 
+/* The delay that the programs use, in milliseconds. A call may be given any other: 0 to 4294967295. */
+#define GELLUNKA_DELAY 2000
+
 /* Buffers of these lengths are never too short: proved, crates/replay_agreement/proofs/Rooms.antt, the page's in
  * crates/page_meaning/proofs/Theorems.antt. */
 #define GELLUNKA_LIST_ROOM 65280    /* of gellunka_list_races */
@@ -58,14 +61,17 @@ extern "C" {
  *    52        orders: length not a multiple of the event count,
  *              or not 0 where there is no event                    0
  *    53        buffer too short: a byte for each order             bytes needed
+ *    54        trace: `from` above `to`                            line
+ *    55        trace: a later line before an earlier one, by
+ *              their times and the delay                           lowest such earlier line
  *
  * Of several causes the first in document 01's order of checks is told. Lines and positions count from 0.
  */
 struct gellunka_refused {
     size_t number; /* document 01's number; 0: nothing is refused, and all fields here are 0 */
     size_t place;  /* a line, a position in the order, the bytes needed, or 0 */
-    /* The refused line, without its LF: `length` bytes from byte `start` on, of the trace for 4 to 8 and
-     * of the table text for 14 to 16. Both are 0 for every other number. */
+    /* The refused line, without its LF: `length` bytes from byte `start` on, of the trace for 4 to 8, 54 and
+     * 55 and of the table text for 14 to 16. Both are 0 for every other number. */
     size_t start;
     size_t length;
 };
@@ -118,25 +124,39 @@ struct gellunka_tried {
 #define GELLUNKA_ORDER_REFUSED 2 /* the order itself is refused, by 21 or 22 */
 
 /*
+ * The checks of a trace, which every call on one makes first, are in this order: 1, 2, 3; on each line from the
+ * first 4, 5, 6, 54; then 7, 8, 55 over the whole trace. "The checks of the trace" below are these.
+ *
+ * One event happens before another if a chain of steps leads to it:
+ *
+ *   - to a later line, by a token that is put out and taken in;
+ *   - to a later line of one switch, from a `bar` to a write, `bar`, `msg` or `pout`, or from one of these to a
+ *     `bar`; no barrier orders a `pkt`;
+ *   - by their times: switches handled both (every word but `oth`; on one switch or on two), they are not both
+ *     `pkt`, and the `from` of the second minus the `to` of the first is above `delay`. Where this leads to an
+ *     earlier line the trace is refused by 55.
+ *
+ * So with from=0 to=0 on every line the times order nothing, whatever the delay.
+ */
+
+/*
  * The list of racing pairs of a trace.
  *
- * Refuses by 1 to 8, then by 31, and leaves `out` as it was then. Otherwise the first 2 * listed bytes of
- * `out` are the listed pairs, two bytes each, lower event and then higher event, in rising order; the bytes
+ * Refuses by the checks of the trace, then by 31, and leaves `out` as it was then. Otherwise the first 2 * listed
+ * bytes of `out` are the listed pairs, two bytes each, lower event and then higher event, in rising order; the bytes
  * after them are as they were. A pair is listed exactly if both events use the table of one switch, neither
- * happens before the other, and there is a table on which the two orders leave different tables or give one
- * of them a different answer. One event happens before another by steps to later lines: by a token that is
- * put out and taken in, and on one switch from a `bar` to a write, `bar`, `msg` or `pout`, or from one of these
- * to a `bar`; no barrier orders a `pkt`.
+ * happens before the other at the delay, and there is a table on which the two orders leave different tables or give
+ * one of them a different answer.
  */
-struct gellunka_listed gellunka_list_races(const uint8_t *trace, size_t trace_length, uint8_t *out,
-                                           size_t out_length);
+struct gellunka_listed gellunka_list_races(const uint8_t *trace, size_t trace_length, uint32_t delay,
+                                           uint8_t *out, size_t out_length);
 
 /*
  * The list of racing pairs of a trace as a page, 60 columns wide.
  *
- * Refuses by 1 to 8, then by 51, and leaves `out` as it was then. Otherwise the first `length` bytes of `out`
- * are the page; the bytes after them are as they were. Each listed pair is a line of 60 bytes and LF, in the
- * order of gellunka_list_races:
+ * Refuses by the checks of the trace, then by 51, and leaves `out` as it was then. Otherwise the first `length`
+ * bytes of `out` are the page; the bytes after them are as they were. Each pair that is listed at the delay is a line
+ * of 60 bytes and LF, in the order of gellunka_list_races:
  *
  *    columns  hold
  *     1 -  3  the lower event, right-justified
@@ -151,14 +171,14 @@ struct gellunka_listed gellunka_list_races(const uint8_t *trace, size_t trace_le
  * each: the name from column 1 on, the number right-justified to column 60. Two different lists never make
  * the same page.
  */
-struct gellunka_paged gellunka_page(const uint8_t *trace, size_t trace_length, uint8_t *out,
+struct gellunka_paged gellunka_page(const uint8_t *trace, size_t trace_length, uint32_t delay, uint8_t *out,
                                     size_t out_length);
 
 /*
  * How many of a trace's pairs that are not ordered commute, in thousandths and with what remains.
  *
- * Refuses by 1 to 8. Otherwise, with the counts that gellunka_list_races gives of the same trace into a long
- * enough buffer:
+ * Refuses by the checks of the trace. Otherwise, with the counts that gellunka_list_races gives of the same trace at
+ * the same delay into a long enough buffer:
  *
  *    divisor == commuting + listed == pairs - ordered
  *    quotient * divisor + remainder == 1000 * commuting
@@ -166,7 +186,7 @@ struct gellunka_paged gellunka_page(const uint8_t *trace, size_t trace_length, u
  *
  * The divisor is 0 exactly if all pairs are ordered or there is none, and then all three numbers are 0.
  */
-struct gellunka_shared gellunka_share(const uint8_t *trace, size_t trace_length);
+struct gellunka_shared gellunka_share(const uint8_t *trace, size_t trace_length, uint32_t delay);
 
 /*
  * The normal form of a table text: switches rising, then table order.
@@ -182,31 +202,32 @@ struct gellunka_normalised gellunka_normalise(const uint8_t *tables, size_t tabl
  * What an order of a trace's events does to the tables of a text. The order has one byte for each event, its
  * number.
  *
- * Refuses by 1 to 8, 11 to 16, 21, 22, 32 and 33, in this order, and leaves both output buffers as they were
- * then. Otherwise the first `tables` bytes of `tables_out` are the end tables in normal form, and the first
- * `answers` bytes of `answers_out` the answer lines by rising event, one for each `pkt`, `pout` and `addc`; the
+ * Refuses by the checks of the trace, 11 to 16, 21, 22, 32 and 33, in this order, and leaves both output buffers as
+ * they were then. Otherwise the first `tables` bytes of `out` are the end tables in normal form, and the first
+ * `answers` bytes of `answered` the answer lines by rising event, one for each `pkt`, `pout` and `addc`; the
  * bytes after them are as they were.
- * Orders that keep happens-before and have every listed pair in recorded order all write the same bytes,
- * those of the recorded order.
+ * Orders that keep happens-before at the delay and have every pair in recorded order that is listed at it all write
+ * the same bytes, those of the recorded order.
  */
 struct gellunka_replayed gellunka_replay(const uint8_t *trace, size_t trace_length, const uint8_t *tables,
                                          size_t tables_length, const uint8_t *order, size_t order_length,
-                                         uint8_t *tables_out, size_t tables_out_length, uint8_t *answers_out,
-                                         size_t answers_out_length);
+                                         uint32_t delay, uint8_t *out, size_t out_length, uint8_t *answered,
+                                         size_t answered_length);
 
 /*
  * Which of many orders of a trace's events do to the tables of a text what the recorded order does. The orders stand
  * end to end, each with one byte for each event, its number. There may be none.
  *
- * Refuses by 1 to 8, 11 to 16, 52 and 53, in this order, and leaves `out` as it was then. Otherwise the first `orders`
- * bytes of `out` are one byte for each order, in their order; the bytes after them are as they were. The byte is
- * GELLUNKA_ORDER_REFUSED exactly if gellunka_replay refuses the order by 21 or 22, GELLUNKA_ORDER_AGREES exactly if it
- * writes for it, into long enough buffers, what it writes for the recorded order, and else GELLUNKA_ORDER_DIFFERS. No
- * other byte is written. An order that keeps happens-before and has every listed pair in recorded order agrees.
+ * Refuses by the checks of the trace, 11 to 16, 52 and 53, in this order, and leaves `out` as it was then. Otherwise
+ * the first `orders` bytes of `out` are one byte for each order, in their order; the bytes after them are as they were.
+ * The byte is GELLUNKA_ORDER_REFUSED exactly if gellunka_replay at the same delay refuses the order by 21 or 22,
+ * GELLUNKA_ORDER_AGREES exactly if it writes for it, into long enough buffers, what it writes for the recorded order,
+ * and else GELLUNKA_ORDER_DIFFERS. No other byte is written. An order that keeps happens-before at the delay and has
+ * every pair in recorded order that is listed at it agrees.
  */
 struct gellunka_tried gellunka_try_orders(const uint8_t *trace, size_t trace_length, const uint8_t *tables,
                                           size_t tables_length, const uint8_t *orders, size_t orders_length,
-                                          uint8_t *out, size_t out_length);
+                                          uint32_t delay, uint8_t *out, size_t out_length);
 
 #ifdef __cplusplus
 }

@@ -62,9 +62,21 @@ pub struct Tried {
 }
 
 extern "C" {
-    fn gellunka_list_races(trace: *const u8, trace_length: usize, out: *mut u8, out_length: usize) -> Listed;
-    fn gellunka_page(trace: *const u8, trace_length: usize, out: *mut u8, out_length: usize) -> Paged;
-    fn gellunka_share(trace: *const u8, trace_length: usize) -> Shared;
+    fn gellunka_list_races(
+        trace: *const u8,
+        trace_length: usize,
+        delay: u32,
+        out: *mut u8,
+        out_length: usize,
+    ) -> Listed;
+    fn gellunka_page(
+        trace: *const u8,
+        trace_length: usize,
+        delay: u32,
+        out: *mut u8,
+        out_length: usize,
+    ) -> Paged;
+    fn gellunka_share(trace: *const u8, trace_length: usize, delay: u32) -> Shared;
     fn gellunka_normalise(
         tables: *const u8,
         tables_length: usize,
@@ -78,10 +90,11 @@ extern "C" {
         tables_length: usize,
         order: *const u8,
         order_length: usize,
-        tables_out: *mut u8,
-        tables_out_length: usize,
-        answers_out: *mut u8,
-        answers_out_length: usize,
+        delay: u32,
+        out: *mut u8,
+        out_length: usize,
+        answered: *mut u8,
+        answered_length: usize,
     ) -> Replayed;
     fn gellunka_try_orders(
         trace: *const u8,
@@ -90,25 +103,26 @@ extern "C" {
         tables_length: usize,
         orders: *const u8,
         orders_length: usize,
+        delay: u32,
         out: *mut u8,
         out_length: usize,
     ) -> Tried;
 }
 
-pub fn list_races(trace: &[u8], out: &mut [u8]) -> Listed {
+pub fn list_races(trace: &[u8], delay: u32, out: &mut [u8]) -> Listed {
     // SAFETY: each pointer and length are those of a slice, and a `&mut` slice overlaps no other. The source
     // has no `requires`, so it asks nothing else.
-    unsafe { gellunka_list_races(trace.as_ptr(), trace.len(), out.as_mut_ptr(), out.len()) }
+    unsafe { gellunka_list_races(trace.as_ptr(), trace.len(), delay, out.as_mut_ptr(), out.len()) }
 }
 
-pub fn page(trace: &[u8], out: &mut [u8]) -> Paged {
+pub fn page(trace: &[u8], delay: u32, out: &mut [u8]) -> Paged {
     // SAFETY: as above.
-    unsafe { gellunka_page(trace.as_ptr(), trace.len(), out.as_mut_ptr(), out.len()) }
+    unsafe { gellunka_page(trace.as_ptr(), trace.len(), delay, out.as_mut_ptr(), out.len()) }
 }
 
-pub fn share(trace: &[u8]) -> Shared {
+pub fn share(trace: &[u8], delay: u32) -> Shared {
     // SAFETY: as above.
-    unsafe { gellunka_share(trace.as_ptr(), trace.len()) }
+    unsafe { gellunka_share(trace.as_ptr(), trace.len(), delay) }
 }
 
 pub fn normalise(tables: &[u8], out: &mut [u8]) -> Normalised {
@@ -120,6 +134,7 @@ pub fn replay(
     trace: &[u8],
     tables: &[u8],
     order: &[u8],
+    delay: u32,
     tables_out: &mut [u8],
     answers_out: &mut [u8],
 ) -> Replayed {
@@ -132,6 +147,7 @@ pub fn replay(
             tables.len(),
             order.as_ptr(),
             order.len(),
+            delay,
             tables_out.as_mut_ptr(),
             tables_out.len(),
             answers_out.as_mut_ptr(),
@@ -140,7 +156,7 @@ pub fn replay(
     }
 }
 
-pub fn try_orders(trace: &[u8], tables: &[u8], orders: &[u8], out: &mut [Trial]) -> Tried {
+pub fn try_orders(trace: &[u8], tables: &[u8], orders: &[u8], delay: u32, out: &mut [Trial]) -> Tried {
     // SAFETY: as above. A `Trial` is one byte, 0, 1 or 2, and the call is proved to write no other bytes there.
     unsafe {
         gellunka_try_orders(
@@ -150,6 +166,7 @@ pub fn try_orders(trace: &[u8], tables: &[u8], orders: &[u8], out: &mut [Trial])
             tables.len(),
             orders.as_ptr(),
             orders.len(),
+            delay,
             out.as_mut_ptr().cast(),
             out.len(),
         )

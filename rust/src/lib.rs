@@ -13,24 +13,42 @@
 //!
 //! A call allocates nothing and takes up to 1 MB of stack.
 //!
+//! # Happens-before and the delay
+//!
+//! Every call on a trace takes a delay in milliseconds; [`DEFAULT_DELAY`] is that of the programs. One event happens
+//! before another if a chain of steps leads to it:
+//!
+//! - to a later line, by a token that is put out and taken in;
+//! - to a later line of one switch, from a `bar` to a write, `bar`, `msg` or `pout`, or from one of these to a `bar`; no
+//!   barrier orders a `pkt`;
+//! - by their times: switches handled both (every word but `oth`; on one switch or on two), they are not both `pkt`, and
+//!   the `from` of the second minus the `to` of the first is above the delay. Where this leads to an earlier line the
+//!   trace is refused by 55.
+//!
+//! So with `from=0 to=0` on every line the times order nothing, whatever the delay.
+//!
+//! The checks of a trace, which each of these calls makes first, are in this order: 1, 2, 3; on each line from the first
+//! 4, 5, 6, 54; then 7, 8, 55 over the whole trace.
+//!
 //! # Example
 //!
 //! ```
 //! let trace = b"\
-//! ev=0 do=pkt in=- out=1 sw=1 port=1 vlan=1 src=0a000001 dst=0a000002 proto=6 sport=4000 dport=80
-//! ev=1 do=oth in=1 out=2,3,4
-//! ev=2 do=add in=2 out=- sw=1 prio=10 port=* vlan=* src=00000000/0 dst=0a000002/32 proto=* sport=* dport=* act=p2
-//! ev=3 do=add in=3 out=- sw=2 prio=10 port=* vlan=* src=00000000/0 dst=0a000002/32 proto=* sport=* dport=* act=p3
-//! ev=4 do=pkt in=4 out=- sw=2 port=1 vlan=1 src=0a000001 dst=0a000002 proto=6 sport=4000 dport=80
+//! ev=0 do=pkt in=- out=1 from=0 to=0 sw=1 port=1 vlan=1 src=0a000001 dst=0a000002 proto=6 sport=4000 dport=80
+//! ev=1 do=oth in=1 out=2,3,4 from=0 to=0
+//! ev=2 do=add in=2 out=- from=0 to=0 sw=1 prio=10 port=* vlan=* src=00000000/0 dst=0a000002/32 proto=* sport=* dport=* act=p2
+//! ev=3 do=add in=3 out=- from=0 to=0 sw=2 prio=10 port=* vlan=* src=00000000/0 dst=0a000002/32 proto=* sport=* dport=* act=p3
+//! ev=4 do=pkt in=4 out=- from=0 to=0 sw=2 port=1 vlan=1 src=0a000001 dst=0a000002 proto=6 sport=4000 dport=80
 //! ";
 //! let mut list = [0; gellunka::LIST_ROOM];
-//! let counts = gellunka::list_races(trace, &mut list)?;
+//! let delay = gellunka::DEFAULT_DELAY;
+//! let counts = gellunka::list_races(trace, delay, &mut list)?;
 //! assert_eq!((counts.pairs, counts.ordered, counts.commuting, counts.listed), (2, 1, 0, 1));
 //! // The packet may reach switch 2 before its rule does.
 //! assert_eq!(counts.pairs_in(&list).collect::<Vec<_>>(), [(3, 4)]);
 //!
 //! let mut page = vec![0; gellunka::PAGE_ROOM];
-//! let length = gellunka::page(trace, &mut page)?;
+//! let length = gellunka::page(trace, delay, &mut page)?;
 //! let lines = [
 //!     format!("{:<60}\n", "  3   4  2 add  pkt     10     -"),
 //!     format!("{:<9}{:>51}\n", "pairs", 2),
@@ -41,19 +59,44 @@
 //! assert_eq!(page[..length], *lines.concat().as_bytes());
 //!
 //! // One pair's order was open, and it doesn't commute.
-//! assert_eq!(gellunka::share(trace)?, gellunka::Share { quotient: 0, remainder: 0, divisor: 1 });
+//! assert_eq!(gellunka::share(trace, delay)?, gellunka::Share { quotient: 0, remainder: 0, divisor: 1 });
 //!
 //! // The recorded order, the two rules exchanged, the packet before its rule, a rule before what sent it.
 //! let orders = [[0, 1, 2, 3, 4], [0, 1, 3, 2, 4], [0, 1, 2, 4, 3], [0, 2, 1, 3, 4]];
 //! let mut results = [gellunka::Trial::Refused; 4];
-//! assert_eq!(gellunka::try_orders(trace, b"", orders.as_flattened(), &mut results)?, 4);
+//! assert_eq!(gellunka::try_orders(trace, b"", orders.as_flattened(), delay, &mut results)?, 4);
 //! use gellunka::Trial::{Agrees, Differs, Refused};
 //! assert_eq!(results, [Agrees, Agrees, Differs, Refused]);
 //!
-//! let refusal = gellunka::list_races(b"ev=7 do=oth in=- out=-\n", &mut list).unwrap_err();
+//! let refusal = gellunka::list_races(b"ev=7 do=oth in=- out=- from=0 to=0\n", delay, &mut list).unwrap_err();
 //! assert_eq!(refusal.reason, gellunka::Reason::EventMisnumbered);
 //! assert_eq!((refusal.reason.number(), refusal.place), (5, 0));
-//! assert_eq!(refusal.line, b"ev=7 do=oth in=- out=-");
+//! assert_eq!(refusal.line, b"ev=7 do=oth in=- out=- from=0 to=0");
+//! # Ok::<(), gellunka::Refusal>(())
+//! ```
+//!
+//! A rule, and a packet that the clocks put 2500 milliseconds behind it:
+//!
+//! ```
+//! let trace = b"\
+//! ev=0 do=add in=- out=- from=10000 to=10500 sw=2 prio=10 port=* vlan=* src=00000000/0 dst=0a000002/32 proto=* sport=* dport=* act=p3
+//! ev=1 do=pkt in=- out=- from=13000 to=13400 sw=2 port=1 vlan=1 src=0a000001 dst=0a000002 proto=6 sport=4000 dport=80
+//! ";
+//! let mut list = [0; gellunka::LIST_ROOM];
+//! assert_eq!(gellunka::list_races(trace, gellunka::DEFAULT_DELAY, &mut list)?.listed, 0);
+//! assert_eq!(gellunka::list_races(trace, 2499, &mut list)?.listed, 0);
+//! // Above the delay is asked for, and 2500 is not above 2500.
+//! assert_eq!(gellunka::list_races(trace, 2500, &mut list)?.listed, 1);
+//!
+//! // The lines exchanged, the times lead backward.
+//! let trace = b"\
+//! ev=0 do=msg in=- out=- from=13000 to=13400 sw=2
+//! ev=1 do=msg in=- out=- from=10000 to=10500 sw=1
+//! ";
+//! assert!(gellunka::list_races(trace, 2500, &mut list).is_ok());
+//! let refusal = gellunka::list_races(trace, 2499, &mut list).unwrap_err();
+//! assert_eq!((refusal.reason, refusal.place), (gellunka::Reason::TimeBackward, 0));
+//! assert_eq!(refusal.line, b"ev=0 do=msg in=- out=- from=13000 to=13400 sw=2");
 //! # Ok::<(), gellunka::Refusal>(())
 //! ```
 
@@ -61,6 +104,9 @@ mod ffi;
 mod refusal;
 
 pub use refusal::{Reason, Refusal};
+
+/// The delay that the programs use, in milliseconds. A call may be given any other.
+pub const DEFAULT_DELAY: u32 = 2_000;
 
 /// A buffer of this length is never too short for [`list_races`].
 pub const LIST_ROOM: usize = 65_280;
@@ -130,16 +176,15 @@ pub enum Trial {
 /// The first `2 * listed` bytes of `out` are then the listed pairs, two bytes each, lower event and then higher
 /// event, in rising order; the bytes after them are as they were. [`Counts::pairs_in`] reads them.
 ///
-/// A pair is listed exactly if both events use the table of one switch, neither happens before the other, and
-/// there is a table on which the two orders leave different tables or give one of them a different answer. One event
-/// happens before another by steps to later lines: by a token that is put out and taken in, and on one switch from a
-/// `bar` to a write, `bar`, `msg` or `pout`, or from one of these to a `bar`; no barrier orders a `pkt`.
+/// A pair is listed exactly if both events use the table of one switch, neither [happens before](crate) the other at
+/// the delay, and there is a table on which the two orders leave different tables or give one of them a different
+/// answer.
 ///
 /// # Errors
 ///
-/// Refuses by 1 to 8, then by 31, and leaves `out` as it was then.
-pub fn list_races<'a>(trace: &'a [u8], out: &mut [u8]) -> Result<Counts, Refusal<'a>> {
-    let answer = ffi::list_races(trace, out);
+/// Refuses by the [checks of the trace](crate), 1 to 8, 54 and 55, then by 31, and leaves `out` as it was then.
+pub fn list_races<'a>(trace: &'a [u8], delay: u32, out: &mut [u8]) -> Result<Counts, Refusal<'a>> {
+    let answer = ffi::list_races(trace, delay, out);
     answer.refused.check(trace, b"")?;
     let ffi::Listed { pairs, ordered, commuting, listed, .. } = answer;
     Ok(Counts { pairs, ordered, commuting, listed })
@@ -147,8 +192,8 @@ pub fn list_races<'a>(trace: &'a [u8], out: &mut [u8]) -> Result<Counts, Refusal
 
 /// Writes the list of a trace as a page, 60 columns wide, and gives its length, `61 * (listed + 4)`.
 ///
-/// That many bytes of `out` are then the page; the bytes after them are as they were. Each listed pair is a line of
-/// 60 bytes and LF, in the list's order:
+/// That many bytes of `out` are then the page; the bytes after them are as they were. Each pair that is listed at the
+/// delay is a line of 60 bytes and LF, in the list's order:
 ///
 /// | columns | hold | justified |
 /// |---|---|---|
@@ -165,24 +210,24 @@ pub fn list_races<'a>(trace: &'a [u8], out: &mut [u8]) -> Result<Counts, Refusal
 ///
 /// # Errors
 ///
-/// Refuses by 1 to 8, then by 51, and leaves `out` as it was then.
-pub fn page<'a>(trace: &'a [u8], out: &mut [u8]) -> Result<usize, Refusal<'a>> {
-    let answer = ffi::page(trace, out);
+/// Refuses by the [checks of the trace](crate), 1 to 8, 54 and 55, then by 51, and leaves `out` as it was then.
+pub fn page<'a>(trace: &'a [u8], delay: u32, out: &mut [u8]) -> Result<usize, Refusal<'a>> {
+    let answer = ffi::page(trace, delay, out);
     answer.refused.check(trace, b"")?;
     Ok(answer.length)
 }
 
 /// Tells how many of a trace's pairs that are not ordered commute, in thousandths and with what remains.
 ///
-/// With the [`Counts`] of the same trace, `divisor` is `commuting + listed`, which is `pairs - ordered`;
+/// With the [`Counts`] of the same trace at the same delay, `divisor` is `commuting + listed`, which is `pairs - ordered`;
 /// `quotient * divisor + remainder` is `1000 * commuting`; and `remainder` is below `divisor`, where that is not 0. The
 /// divisor is 0 exactly if all pairs are ordered or there is none, and then all three numbers are 0.
 ///
 /// # Errors
 ///
-/// Refuses by 1 to 8.
-pub fn share(trace: &[u8]) -> Result<Share, Refusal<'_>> {
-    let answer = ffi::share(trace);
+/// Refuses by the [checks of the trace](crate), 1 to 8, 54 and 55.
+pub fn share(trace: &[u8], delay: u32) -> Result<Share, Refusal<'_>> {
+    let answer = ffi::share(trace, delay);
     answer.refused.check(trace, b"")?;
     let ffi::Shared { quotient, remainder, divisor, .. } = answer;
     Ok(Share { quotient, remainder, divisor })
@@ -206,19 +251,21 @@ pub fn normalise<'a>(tables: &'a [u8], out: &mut [u8]) -> Result<usize, Refusal<
 ///
 /// `tables_out` then starts with the end tables in normal form and `answers_out` with the answer lines by rising
 /// event, one for each `pkt`, `pout` and `addc`; the bytes after them are as they were. Orders that keep
-/// happens-before and have every listed pair in recorded order all write the same bytes.
+/// happens-before at the delay and have every pair in recorded order that is listed at it all write the same bytes.
 ///
 /// # Errors
 ///
-/// Refuses by 1 to 8, 11 to 16, 21, 22, 32 and 33, in this order, and leaves both buffers as they were then.
+/// Refuses by the [checks of the trace](crate), 1 to 8, 54 and 55, then by 11 to 16, 21, 22, 32 and 33, in this order, and
+/// leaves both buffers as they were then.
 pub fn replay<'a>(
     trace: &'a [u8],
     tables: &'a [u8],
     order: &[u8],
+    delay: u32,
     tables_out: &mut [u8],
     answers_out: &mut [u8],
 ) -> Result<Lengths, Refusal<'a>> {
-    let answer = ffi::replay(trace, tables, order, tables_out, answers_out);
+    let answer = ffi::replay(trace, tables, order, delay, tables_out, answers_out);
     answer.refused.check(trace, tables)?;
     Ok(Lengths { tables: answer.tables, answers: answer.answers })
 }
@@ -227,20 +274,22 @@ pub fn replay<'a>(
 /// the number of orders. The orders stand end to end, each with one byte for each event; there may be none.
 ///
 /// `out` then starts with what is told of each order, in their order; the rest is as it was. An order is
-/// [`Trial::Refused`] exactly if [`replay`] refuses it by 21 or 22, and [`Trial::Agrees`] exactly if [`replay`] writes
-/// for it, into long enough buffers, what it writes for the recorded order. One that keeps happens-before and has every
-/// listed pair in recorded order agrees.
+/// [`Trial::Refused`] exactly if [`replay`] at the same delay refuses it by 21 or 22, and [`Trial::Agrees`] exactly if
+/// [`replay`] writes for it, into long enough buffers, what it writes for the recorded order. One that keeps
+/// happens-before at the delay and has every pair in recorded order that is listed at it agrees.
 ///
 /// # Errors
 ///
-/// Refuses by 1 to 8, 11 to 16, 52 and 53, in this order, and leaves `out` as it was then.
+/// Refuses by the [checks of the trace](crate), 1 to 8, 54 and 55, then by 11 to 16, 52 and 53, in this order, and leaves
+/// `out` as it was then.
 pub fn try_orders<'a>(
     trace: &'a [u8],
     tables: &'a [u8],
     orders: &[u8],
+    delay: u32,
     out: &mut [Trial],
 ) -> Result<usize, Refusal<'a>> {
-    let answer = ffi::try_orders(trace, tables, orders, out);
+    let answer = ffi::try_orders(trace, tables, orders, delay, out);
     answer.refused.check(trace, tables)?;
     Ok(answer.orders)
 }

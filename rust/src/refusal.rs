@@ -48,6 +48,11 @@ pub enum Reason {
     OrdersUneven,
     /// 53: the buffer for what is told of each order is too short; the place is the number of orders.
     TrialsShort,
+    /// 54: a line of the trace has a `from` above its `to`.
+    RangeReversed,
+    /// 55: their times and the delay put a later line of the trace before an earlier one; the place is the lowest such
+    /// earlier line.
+    TimeBackward,
 }
 
 /// A refusal: why, where, and the refused line.
@@ -64,7 +69,7 @@ pub struct Refusal<'a> {
 }
 
 impl Reason {
-    const ALL: [(Reason, usize, &'static str); 22] = [
+    const ALL: [(Reason, usize, &'static str); 24] = [
         (Reason::TraceTooLong, 1, "trace over 65,535 bytes"),
         (Reason::TraceUnended, 2, "last byte of the trace is not LF"),
         (Reason::TraceTooManyLines, 3, "trace over 256 lines"),
@@ -87,6 +92,8 @@ impl Reason {
         (Reason::PageShort, 51, "page buffer too short"),
         (Reason::OrdersUneven, 52, "length of the orders not a multiple of the event count"),
         (Reason::TrialsShort, 53, "buffer for the orders' results too short"),
+        (Reason::RangeReversed, 54, "`from` above `to`"),
+        (Reason::TimeBackward, 55, "later line before an earlier one by their times"),
     ];
 
     /// Document 01's number.
@@ -100,12 +107,12 @@ impl Reason {
 
     /// Whether the place is a line of the trace.
     pub fn is_in_trace(self) -> bool {
-        (4..=8).contains(&self.number())
+        matches!(self.number(), 4..=8 | 54 | 55)
     }
 
     /// Whether the place is a line of the table text.
     pub fn is_in_tables(self) -> bool {
-        (14..=16).contains(&self.number())
+        matches!(self.number(), 14..=16)
     }
 }
 

@@ -136,7 +136,8 @@ struct gellunka_tried {
  *     `pkt`, and the `from` of the second minus the `to` of the first is above `delay`. Where this leads to an
  *     earlier line the trace is refused by 55.
  *
- * So with from=0 to=0 on every line the times order nothing, whatever the delay.
+ * So with from=0 to=0 on every line the times order nothing, whatever the delay. A longer delay refuses no more
+ * traces, orders no more pairs, and lists every pair that a shorter one lists.
  */
 
 /*

@@ -25,7 +25,8 @@
 //!   the `from` of the second minus the `to` of the first is above the delay. Where this leads to an earlier line the
 //!   trace is refused by 55.
 //!
-//! So with `from=0 to=0` on every line the times order nothing, whatever the delay.
+//! So with `from=0 to=0` on every line the times order nothing, whatever the delay. A longer delay refuses no more traces,
+//! orders no more pairs, and lists every pair that a shorter one lists.
 //!
 //! The checks of a trace, which each of these calls makes first, are in this order: 1, 2, 3; on each line from the first
 //! 4, 5, 6, 54; then 7, 8, 55 over the whole trace.

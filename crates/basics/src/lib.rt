@@ -1,1 +1,2 @@
 // Texts, searches and lists: definitions and laws only.
+#![tactic(auto)]

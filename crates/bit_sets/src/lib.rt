@@ -1,4 +1,5 @@
 // Sets of numbers below 512, as eight words of 64 bits.
+#![tactic(auto)]
 mod search;
 mod sets;
 

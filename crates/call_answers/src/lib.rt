@@ -1,4 +1,5 @@
 // What the calls answer, apart from their buffers.
+#![tactic(auto)]
 pub mod list;
 pub mod normal;
 pub mod page;

@@ -1,7 +1,7 @@
 // What the list call answers: the four counts, or what is refused.
 use refusals::Refusal;
 
-#[derive(Drop)]
+#[derive(Clone, Copy)]
 pub struct Counts {
     pub pairs: usize,
     pub ordered: usize,
@@ -9,7 +9,7 @@ pub struct Counts {
     pub listed: usize,
 }
 
-#[derive(Drop)]
+#[derive(Clone, Copy)]
 pub enum ListAnswer {
     Counts(Counts),
     Refused(Refusal),

@@ -2,7 +2,7 @@
 use refusals::Refusal;
 
 // The length of the normal text, or what is refused.
-#[derive(Drop)]
+#[derive(Clone, Copy)]
 pub enum NormalAnswer {
     Length(usize),
     Refused(Refusal),

@@ -2,7 +2,7 @@
 use refusals::Refusal;
 
 // The length of the page, or what is refused.
-#[derive(Drop)]
+#[derive(Clone, Copy)]
 pub enum PageAnswer {
     Length(usize),
     Refused(Refusal),

@@ -2,7 +2,7 @@
 use refusals::Refusal;
 
 // The lengths of the end tables and of the answers, or what is refused.
-#[derive(Drop)]
+#[derive(Clone, Copy)]
 pub enum ReplayAnswer {
     Lengths(usize, usize),
     Refused(Refusal),

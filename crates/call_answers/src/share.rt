@@ -2,14 +2,14 @@
 use refusals::Refusal;
 
 // A division that leaves nothing out: quotient times divisor, and the remainder.
-#[derive(Drop)]
+#[derive(Clone, Copy)]
 pub struct Share {
     pub quotient: usize,
     pub remainder: usize,
     pub divisor: usize,
 }
 
-#[derive(Drop)]
+#[derive(Clone, Copy)]
 pub enum ShareAnswer {
     Share(Share),
     Refused(Refusal),

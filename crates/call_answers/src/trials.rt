@@ -2,7 +2,7 @@
 use refusals::Refusal;
 
 // How many orders were tried, or what is refused.
-#[derive(Drop)]
+#[derive(Clone, Copy)]
 pub enum TrialsAnswer {
     Orders(usize),
     Refused(Refusal),

@@ -10,7 +10,7 @@ use flow_bits::{Bits, Word, exactly};
 use flow_table::Effect;
 
 // The forms of an effect.
-#[derive(Drop)]
+#[derive(Clone, Copy)]
 pub enum EffectKind {
     Idle,
     Pkt,
@@ -22,7 +22,7 @@ pub enum EffectKind {
 }
 
 // Priority 0 and action 0 where the effect has none.
-#[derive(Drop)]
+#[derive(Clone, Copy)]
 pub struct Footprint {
     pub kind: EffectKind,
     pub priority: u16,

@@ -7,7 +7,7 @@ use refusals::Refused;
 
 // The four counts, or what is refused.
 #[repr(C)]
-#[derive(Drop)]
+#[derive(Clone, Copy)]
 pub struct Listed {
     pub refused: Refused,
     pub pairs: usize,

@@ -7,7 +7,7 @@ use refusals::Refused;
 
 // The length of the normal text, or what is refused.
 #[repr(C)]
-#[derive(Drop)]
+#[derive(Clone, Copy)]
 pub struct Normalised {
     pub refused: Refused,
     pub length: usize,

@@ -7,7 +7,7 @@ use refusals::Refused;
 
 // The length of the page, or what is refused.
 #[repr(C)]
-#[derive(Drop)]
+#[derive(Clone, Copy)]
 pub struct Paged {
     pub refused: Refused,
     pub length: usize,

@@ -7,7 +7,7 @@ use refusals::Refused;
 
 // The lengths of the end tables and of the answers, or what is refused.
 #[repr(C)]
-#[derive(Drop)]
+#[derive(Clone, Copy)]
 pub struct Replayed {
     pub refused: Refused,
     pub tables: usize,

@@ -7,7 +7,7 @@ use refusals::Refused;
 
 // Quotient, remainder and divisor, or what is refused.
 #[repr(C)]
-#[derive(Drop)]
+#[derive(Clone, Copy)]
 pub struct Shared {
     pub refused: Refused,
     pub quotient: usize,

@@ -7,7 +7,7 @@ use refusals::Refused;
 
 // How many orders were tried, or what is refused.
 #[repr(C)]
-#[derive(Drop)]
+#[derive(Clone, Copy)]
 pub struct Tried {
     pub refused: Refused,
     pub orders: usize,

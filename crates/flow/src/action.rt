@@ -2,7 +2,7 @@
 ghost use Rattle.std.specs.Prelude.{◌≡◌};
 ghost use Rattle.flow.specs.Entries.{action_code, same_action};
 
-#[derive(Drop)]
+#[derive(Clone, Copy)]
 pub enum Action {
     Drop,
     Controller,

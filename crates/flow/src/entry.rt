@@ -6,13 +6,13 @@ use crate::action::Action;
 use crate::matching::Match;
 use crate::ordering::Ordering;
 
-#[derive(Drop)]
+#[derive(Clone, Copy)]
 pub struct Key {
     pub priority: u16,
     pub pattern: Match,
 }
 
-#[derive(Drop)]
+#[derive(Clone, Copy)]
 pub struct Entry {
     pub key: Key,
     pub action: Action,

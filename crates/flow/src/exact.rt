@@ -7,7 +7,7 @@ ghost use Rattle.flow.specs.Orders.{order_of, then_by};
 
 use crate::ordering::Ordering;
 
-#[derive(Drop)]
+#[derive(Clone, Copy)]
 pub enum Exact {
     Any,
     Is(u16),

@@ -8,7 +8,7 @@ use crate::exact::Exact;
 use crate::ordering::Ordering;
 use crate::prefix::Prefix;
 
-#[derive(Drop)]
+#[derive(Clone, Copy)]
 pub struct Match {
     pub port: Exact,
     pub vlan: Exact,
@@ -19,7 +19,7 @@ pub struct Match {
     pub dport: Exact,
 }
 
-#[derive(Drop)]
+#[derive(Clone, Copy)]
 pub struct Packet {
     pub port: u16,
     pub vlan: u16,

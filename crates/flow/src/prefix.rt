@@ -6,7 +6,7 @@ ghost use Rattle.flow.specs.Orders.{order_of, then_by};
 
 use crate::ordering::Ordering;
 
-#[derive(Drop)]
+#[derive(Clone, Copy)]
 pub struct Prefix {
     pub value: u32,
     pub length: u8,

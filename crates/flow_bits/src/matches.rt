@@ -7,7 +7,7 @@ use flow::{Exact, Match, Packet, Prefix};
 
 // Port, VLAN, source; destination, protocol, source port; the lengths of both prefixes, which count only where two matches are the
 // same, and the destination port.
-#[derive(Drop)]
+#[derive(Clone, Copy)]
 pub struct Bits {
     pub first: Word,
     pub second: Word,

@@ -6,7 +6,7 @@ use flow::prefix::mask;
 use flow::{Exact, Prefix};
 
 // Bits, and a mask of those that count.
-#[derive(Drop)]
+#[derive(Clone, Copy)]
 pub struct Word {
     pub value: u64,
     pub mask: u64,

@@ -6,7 +6,7 @@ use crate::operation::TableOperation;
 use flow::{Entry, Key, Match, Packet};
 
 // `pkt` and `pout` a packet; `add`, `addc`, `mods` and `modn` an entry; `dels` a key; `deln` a match.
-#[derive(Drop)]
+#[derive(Clone, Copy)]
 pub enum Carried {
     Packet(Packet),
     Entry(Entry),

@@ -6,7 +6,7 @@ use crate::operation::{Operation, TableOperation};
 use flow::{Action, Key, Match, Packet};
 
 // By document 01's words; `mods` reads as `add`, `pout` as `pkt`; `oth`, `bar` and `msg` do nothing.
-#[derive(Drop)]
+#[derive(Clone, Copy)]
 pub enum Effect {
     Pkt(Packet),
     Add(Key, Action),

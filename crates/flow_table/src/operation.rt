@@ -2,14 +2,14 @@
 use flow::{Action, Entry, Key, Match, Packet};
 
 // Where a packet that meets a table came from: received by the switch, `pkt`, or sent out by the controller, `pout`.
-#[derive(Drop)]
+#[derive(Clone, Copy)]
 pub enum Origin {
     Received,
     SentOut,
 }
 
 // An operation on one switch's table: `pkt` and `pout`, `add`, `addc`, `mods`, `modn`, `dels`, `deln`.
-#[derive(Drop)]
+#[derive(Clone, Copy)]
 pub enum TableOperation {
     Packet(Origin, Packet),
     Add(Entry),
@@ -21,7 +21,7 @@ pub enum TableOperation {
 }
 
 // What an event does: `oth`, or on a switch `bar`, `msg` or an operation on its table.
-#[derive(Drop)]
+#[derive(Clone, Copy)]
 pub enum Operation {
     Other,
     Barrier(u8),
@@ -31,7 +31,7 @@ pub enum Operation {
 
 // No answer; of a packet a miss, or the priority, how many entries fit at it and the action of the first; of a checked add
 // whether it added.
-#[derive(Drop)]
+#[derive(Clone, Copy)]
 pub enum Answer {
     Silent,
     Miss,

@@ -1,5 +1,6 @@
 // Vectors for matches and table order: document 01's examples of addresses, the masks of all lengths, each pair of the
 // matches below, and each packet against each match. What must come out is in the file `stdout`.
+#![tactic(auto)]
 ghost use Rattle.std.specs.Prelude.{◌<◌};
 
 use flow::{Action, Exact, Key, Match, Ordering, Packet, Prefix};

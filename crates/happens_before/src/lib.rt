@@ -1,4 +1,5 @@
 // Happens-before: for each event of a trace the set of the events before it.
+#![tactic(auto)]
 pub mod closure;
 mod sets;
 

@@ -1,4 +1,5 @@
 // A trace and tables read for a call that takes both.
+#![tactic(auto)]
 ghost use Rattle.std.specs.Prelude.{[], ◌≡◌, ◌≤◌};
 ghost use Rattle.refusals.specs.Checks.{value_or};
 ghost use Rattle.trace_events.specs.Events.{events_of};
@@ -14,7 +15,7 @@ use trace_events::Trace;
 
 // Accepted, both texts are. The events and the rows, in order, are those of each text that is accepted by itself; of one that is
 // refused there are none.
-#[derive(Drop)]
+#[derive(Clone, Copy)]
 pub struct Inputs {
     pub outcome: Outcome,
     pub trace: Trace,

@@ -1,4 +1,5 @@
 // What `racelist` prints of a trace.
+#![tactic(auto)]
 pub mod printing;
 
 pub use printing::{report, room};

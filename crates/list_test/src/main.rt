@@ -1,4 +1,5 @@
 // Prints the report on each trace text of its data files. What must come out is in the file `stdout`.
+#![tactic(auto)]
 use program_delay::DELAY;
 
 // The files 000 and on: the worked lines and no events; each refusal; barriers, messages and chains through tokens; pairs that commute or

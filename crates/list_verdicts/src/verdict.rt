@@ -11,7 +11,7 @@ use flow_table::{Operation, effect_of};
 use trace_events::switch_of;
 
 // No pair; or a pair that is ordered, commuting or listed.
-#[derive(Drop)]
+#[derive(Clone, Copy)]
 pub enum Verdict {
     Unpaired,
     Ordered,
@@ -21,7 +21,7 @@ pub enum Verdict {
 
 // What an event is to the list: whether it uses a table, of which switch, and the footprint of what it does there. Worked out once an
 // event, not once a pair.
-#[derive(Drop)]
+#[derive(Clone, Copy)]
 pub struct TableUse {
     pub uses: bool,
     pub switch: u8,

@@ -1,4 +1,5 @@
 // Reads a table text from standard input, and writes its normal form or what is refused to standard output.
+#![tactic(auto)]
 use call_answers::NormalAnswer;
 
 fn answer(tables: &[u8]) {

@@ -7,7 +7,7 @@ ghost use Rattle.order_check.specs.Inner.{as_position};
 
 use happens_before::{lacks, with};
 
-#[derive(Drop)]
+#[derive(Clone, Copy)]
 pub enum Early {
     At(usize),
     Nowhere,

@@ -15,7 +15,7 @@ use rows_step::{Put, Work, next_free, noted, work_of};
 use trace_events::{Event, Trace, switch_of};
 
 // The rows that an order leaves, and the answer of each event under its number.
-#[derive(Drop)]
+#[derive(Clone, Copy)]
 pub struct Ran {
     pub rows: Rows,
     pub answers: [Kept; 256],

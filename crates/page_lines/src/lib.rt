@@ -1,4 +1,5 @@
 // The line of a listed pair on the page.
+#![tactic(auto)]
 pub mod line; // what it says
 pub mod put; // how it says it
 

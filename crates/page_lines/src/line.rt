@@ -7,14 +7,14 @@ use trace_events::switch_of;
 use trace_words::{Word, word_of};
 
 // The priority of a write; `pkt`, `pout` and `deln` have none.
-#[derive(Drop)]
+#[derive(Clone, Copy)]
 pub enum Priority {
     Absent,
     Of(u16),
 }
 
 // An event: its number, its word, its priority.
-#[derive(Drop)]
+#[derive(Clone, Copy)]
 pub struct Mention {
     pub event: u8,
     pub word: Word,
@@ -22,7 +22,7 @@ pub struct Mention {
 }
 
 // A pair: the switch, and both events.
-#[derive(Drop)]
+#[derive(Clone, Copy)]
 pub struct PairLine {
     pub switch: u8,
     pub lower: Mention,

@@ -1,4 +1,5 @@
 // The page of a trace: a line for each listed pair, then the four counts.
+#![tactic(auto)]
 pub mod counts;
 pub mod pairs;
 

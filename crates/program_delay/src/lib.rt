@@ -1,4 +1,5 @@
 // The delay that a program calls with, in milliseconds: the one that an argument gives, or the usual one.
+#![tactic(auto)]
 ghost use Rattle.std.specs.Prelude.{◌≡◌};
 ghost use Rattle.program_delay.specs.Delays.{delay_of};
 ghost use Rattle.program_delay.specs.Inner.{as_delay};
@@ -10,7 +11,7 @@ use text_numbers::Long;
 pub const DELAY: u32 = 2000;
 
 // The delay that a text gives, or none.
-#[derive(Drop)]
+#[derive(Clone, Copy)]
 pub enum Delay {
     Given(u32),
     Bad,

@@ -1,4 +1,5 @@
 // What the programs write on standard output. What can't be written is said on standard error.
+#![tactic(auto)]
 use libc::STDOUT_FILENO;
 use refusals::Refusal;
 

@@ -3,7 +3,7 @@ ghost use Rattle.std.specs.Prelude.{◌≡◌, cond};
 ghost use Rattle.refusals.specs.Checks.{first_of};
 ghost use Rattle.refusals.specs.Refusals.{refusal_row, returned};
 
-#[derive(Drop)]
+#[derive(Clone, Copy)]
 pub enum Refusal {
     TraceTooLong,
     TraceUnended,
@@ -32,7 +32,7 @@ pub enum Refusal {
 }
 
 // What a check answers: accepted, or what is refused.
-#[derive(Drop)]
+#[derive(Clone, Copy)]
 pub enum Outcome {
     Accepted,
     Refused(Refusal),
@@ -58,7 +58,7 @@ pub fn refused_if(found: bool, refusal: Refusal) -> Outcome
 }
 
 // The text that the place of a refusal is a line of.
-#[derive(Drop)]
+#[derive(Clone, Copy)]
 pub enum Source {
     Neither,
     Trace,
@@ -66,7 +66,7 @@ pub enum Source {
 }
 
 // What is returned of a refusal: number, place, and the text of which the place is a line.
-#[derive(Drop)]
+#[derive(Clone, Copy)]
 pub struct Returned {
     pub number: u8,
     pub place: usize,

@@ -7,7 +7,7 @@ use crate::refusal::Refusal;
 
 // Document 01's number, 0 where nothing is refused; its place; and where the refused line stands in its text, and how long it is.
 #[repr(C)]
-#[derive(Drop)]
+#[derive(Clone, Copy)]
 pub struct Refused {
     pub number: usize,
     pub place: usize,

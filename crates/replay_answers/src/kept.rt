@@ -5,7 +5,7 @@ ghost use Rattle.replay_answers.specs.Inner.{kept_at};
 use flow_table::Answer;
 
 // An answer, silent where none was given.
-#[derive(Drop)]
+#[derive(Clone, Copy)]
 pub struct Kept {
     pub answer: Answer,
 }

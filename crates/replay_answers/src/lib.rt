@@ -1,4 +1,5 @@
 // The answers of events, kept under their numbers, and their lines.
+#![tactic(auto)]
 pub mod answers;
 pub mod kept;
 

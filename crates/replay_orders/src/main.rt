@@ -1,6 +1,7 @@
 // replay_orders TRACE TABLES ORDERS [DELAY]: tries orders of the events of a trace, each from the tables of a second file; a third
 // holds the orders end to end, a byte for each event. DELAY is in milliseconds; left out, it is the usual one. Prints a line for each
 // order, or what is refused.
+#![tactic(auto)]
 ghost use Rattle.std.specs.Prelude.{◌≡◌, ◌+◌, ◌≤◌, ◌<◌, length};
 
 use call_answers::TrialsAnswer;

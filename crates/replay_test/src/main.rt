@@ -2,6 +2,7 @@
 // file, a line for each. What must come out is in the file `stdout`: `ops` has each operation and its answers, each on a switch of
 // its own; `small` all 120 orders of five events, and orders that are none; `pout` all 24 orders of a rule, a barrier and two
 // packets; `clock` all 24 orders of four events that clocks order in part; `full` 256 events on 256 entries.
+#![tactic(auto)]
 use call_answers::ReplayAnswer;
 use program_delay::DELAY;
 use program_input::Input;

@@ -1,6 +1,7 @@
 // replay_trace TRACE TABLES [ORDER [DELAY]]: replays the trace of a file from the tables of another, in the order whose bytes a third
 // holds, one for each event; left out, in the recorded order. DELAY is in milliseconds; left out, it is the usual one. Prints the end
 // tables and then the answers, or what is refused.
+#![tactic(auto)]
 use call_answers::ReplayAnswer;
 use libc::STDERR_FILENO;
 use program_delay::Delay;

@@ -5,7 +5,7 @@ ghost use Rattle.rows.specs.Rows.{passes};
 
 use flow::{Key, Match, Packet};
 
-#[derive(Drop)]
+#[derive(Clone, Copy)]
 pub enum Filter {
     // No key passes.
     Nothing,

@@ -5,14 +5,14 @@ ghost use Rattle.rows.specs.Rows.{row_order, on_switch, passes, assign_row};
 use crate::filter::Filter;
 use flow::{Action, Entry, Ordering};
 
-#[derive(Drop)]
+#[derive(Clone, Copy)]
 pub struct Row {
     pub switch: u8,
     pub entry: Entry,
 }
 
 // The rows are the first `len` of the array.
-#[derive(Drop)]
+#[derive(Clone, Copy)]
 pub struct Rows {
     pub rows: [Row; 512],
     pub len: usize,

@@ -8,7 +8,7 @@ use rows::Row;
 
 // The rows before `low` are less than the row, and it goes to `at` unless its place is found between them; `same` where the row at
 // `at` has its switch and key.
-#[derive(Drop)]
+#[derive(Clone, Copy)]
 pub struct Search {
     pub low: usize,
     pub at: usize,
@@ -16,7 +16,7 @@ pub struct Search {
 }
 
 // The rows from a place up to `from` move up by one, and then there are `len`.
-#[derive(Drop)]
+#[derive(Clone, Copy)]
 pub struct Room {
     pub from: usize,
     pub len: usize,

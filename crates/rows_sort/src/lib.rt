@@ -1,4 +1,5 @@
 // The rows of a text's lines, put in order.
+#![tactic(auto)]
 ghost use Rattle.std.specs.Prelude.{◌≤◌};
 ghost use Rattle.rows.specs.Rows.{rows_of};
 ghost use Rattle.rows_sort.specs.Sorting.{sort_rows, Sorts};
@@ -7,7 +8,7 @@ use rows::Rows;
 use rows_search::Search;
 
 // The rows in order, and line 0; or, where a line's switch and key stood on an earlier line, the first such line and no rows.
-#[derive(Drop)]
+#[derive(Clone, Copy)]
 pub struct Sorted {
     pub ok: bool,
     pub line: usize,

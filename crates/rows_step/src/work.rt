@@ -10,7 +10,7 @@ use flow_table::{Answer, Effect};
 use rows::{Filter, Row};
 
 // What becomes of the rows that pass.
-#[derive(Drop)]
+#[derive(Clone, Copy)]
 pub enum Change {
     Keep,
     Drop,
@@ -18,14 +18,14 @@ pub enum Change {
 }
 
 // What is put in where no row passes.
-#[derive(Drop)]
+#[derive(Clone, Copy)]
 pub enum Put {
     Nothing,
     One(Row),
 }
 
 // `answer` is the answer before the first row is seen.
-#[derive(Drop)]
+#[derive(Clone, Copy)]
 pub struct Work {
     pub switch: u8,
     pub filter: Filter,

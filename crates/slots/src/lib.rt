@@ -1,1 +1,2 @@
 // The rows of a run as slots: definitions and theorems.
+#![tactic(auto)]

@@ -6,7 +6,7 @@ ghost use Rattle.slots_plan.specs.InnerAsking.{question_of, asks, FilterNarrow};
 use flow_bits::{Bits, exactly};
 use rows::Filter;
 
-#[derive(Drop)]
+#[derive(Clone, Copy)]
 pub enum Question {
     // No key passes.
     Nothing,

@@ -9,7 +9,7 @@ use rows::Rows;
 use rows_search::Search;
 
 // The slots held, and the codes of their actions.
-#[derive(Drop)]
+#[derive(Clone, Copy)]
 pub struct Started {
     pub set: [u64; 8],
     pub codes: [u32; 512],

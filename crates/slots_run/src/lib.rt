@@ -1,4 +1,5 @@
 // An order of events run on slots, and whether two such ends are the same.
+#![tactic(auto)]
 pub mod answers;
 pub mod ends;
 pub mod lookup;

@@ -8,7 +8,7 @@ use crate::stepping::step;
 use replay_answers::{Kept, no_answers};
 
 // The slots that an order leaves, the codes of their actions, and the answer of each event under its number.
-#[derive(Drop)]
+#[derive(Clone, Copy)]
 pub struct Ended {
     pub set: [u64; 8],
     pub codes: [u32; 512],

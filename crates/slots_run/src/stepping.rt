@@ -9,7 +9,7 @@ use bit_sets::{common, next, with, without};
 use flow_table::Answer;
 
 // The slots held after an event, and its answer.
-#[derive(Drop)]
+#[derive(Clone, Copy)]
 pub struct Stepped {
     pub set: [u64; 8],
     pub answer: Answer,

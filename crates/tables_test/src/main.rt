@@ -1,5 +1,6 @@
 // Normalises the table texts of its data files, and each accepted one again into a buffer that is a byte too short for it.
 // What must come out is in the file `stdout`.
+#![tactic(auto)]
 use call_answers::NormalAnswer;
 
 // The numbered files: 00 to 03 the same rules in four orders; 04 no line, 05 one, 06 256 lines; 07 to 14 refusals 13, 16, 11, 12 and 14

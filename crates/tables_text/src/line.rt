@@ -9,7 +9,7 @@ use text_fields::{EntryRead, entry_at};
 use text_numbers::{Number, number_at};
 
 // A line's row, or why the line is refused.
-#[derive(Drop)]
+#[derive(Clone, Copy)]
 pub enum RowRead {
     Read(Row),
     Refused(Refusal),

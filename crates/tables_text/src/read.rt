@@ -14,7 +14,7 @@ use rows::Rows;
 use text_lines::Limit;
 
 // Accepted, the rows are those of the text; refused, there are none.
-#[derive(Drop)]
+#[derive(Clone, Copy)]
 pub struct TablesRead {
     pub outcome: Outcome,
     pub rows: Rows,

@@ -8,7 +8,7 @@ use Rattle.text_numbers.specs.Reading.{mapped}
 use Rattle.text_numbers.specs.Number.{is_digit, read_number}
 use Rattle.text_numbers.specs.Print.{print_number}
 use Rattle.text_numbers.proofs.Numbers.{number_format}
-use Rattle.text_numbers.proofs.Hex.{hex_format}
+use Rattle.text_numbers.proofs.HexLaws.{hex_format}
 use Rattle.text_numbers.proofs.Format.{Format, keyed_format, along, both_format}
 use Rattle.text_numbers.proofs.Words.{word_format, number_apart}
 use Rattle.flow.specs.Matches.{ExactInRange}

@@ -6,7 +6,7 @@ use native.Mathlib.Omega.{arith}
 use Rattle.basics.specs.Text.{bytes}
 use Rattle.text_numbers.specs.Reading.{Reader}
 use Rattle.text_numbers.proofs.Numbers.{number_format}
-use Rattle.text_numbers.proofs.Hex.{hex_format}
+use Rattle.text_numbers.proofs.HexLaws.{hex_format}
 use Rattle.text_numbers.proofs.Format.{Follows, Format, space_ends, keyed_format, along, both_format}
 use Rattle.flow.specs.Matches.{PacketInRange}
 use Rattle.text_fields.specs.Types.{Match, Packet}

@@ -13,21 +13,21 @@ use refusals::Refusal;
 use text_numbers::{Number, number_at, starts_with};
 
 // An action that was read and the place after it, or no action.
-#[derive(Drop)]
+#[derive(Clone, Copy)]
 pub enum ActionRead {
     Read { value: Action, next: usize },
     Bad,
 }
 
 // A key that was read and the place after it, or the refusal of the line.
-#[derive(Drop)]
+#[derive(Clone, Copy)]
 pub enum KeyRead {
     Read { value: Key, next: usize },
     Refused(Refusal),
 }
 
 // An entry that was read and the place after it, or the refusal of the line.
-#[derive(Drop)]
+#[derive(Clone, Copy)]
 pub enum EntryRead {
     Read { value: Entry, next: usize },
     Refused(Refusal),

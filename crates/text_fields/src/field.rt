@@ -8,13 +8,13 @@ use flow::{Exact, Prefix};
 use text_numbers::{Hex, Number, hex_at, number_at, read_number, starts_with};
 
 // A field that was read and the place after it, or no such field.
-#[derive(Drop)]
+#[derive(Clone, Copy)]
 pub enum ExactRead {
     Read { value: Exact, next: usize },
     Bad,
 }
 
-#[derive(Drop)]
+#[derive(Clone, Copy)]
 pub enum PrefixRead {
     Read { value: Prefix, next: usize },
     Bad,

@@ -14,14 +14,14 @@ use refusals::Refusal;
 use text_numbers::{Hex, Number, hex_at, number_at};
 
 // A match that was read and the place after it, or the refusal of the line.
-#[derive(Drop)]
+#[derive(Clone, Copy)]
 pub enum MatchRead {
     Read { value: Match, next: usize },
     Refused(Refusal),
 }
 
 // A packet that was read and the place after it, or the refusal of the line.
-#[derive(Drop)]
+#[derive(Clone, Copy)]
 pub enum PacketRead {
     Read { value: Packet, next: usize },
     Refused(Refusal),

@@ -5,7 +5,7 @@ ghost use Rattle.text_lines.specs.Limits.{limit_of};
 use crate::{count_lines, ends_with_lf};
 
 // The first limit that a text exceeds, if any.
-#[derive(Drop)]
+#[derive(Clone, Copy)]
 pub enum Limit {
     Kept,
     TooLong,

@@ -2,7 +2,7 @@ pub mod Readers
 pub mod Keys
 pub mod Print
 pub mod Numbers
-pub mod Hex
+pub mod HexLaws
 pub mod Writing
 pub mod Format
 pub mod Words

@@ -7,21 +7,21 @@ ghost use Rattle.text_numbers.specs.Inner.{as_number, as_long, as_hex};
 use crate::text::{byte_at, starts_with};
 
 // A number of up to 16 bits that was read and the place after it, or no such number.
-#[derive(Drop)]
+#[derive(Clone, Copy)]
 pub enum Number {
     Read { value: u16, next: usize },
     Bad,
 }
 
 // The same, of up to 32 bits.
-#[derive(Drop)]
+#[derive(Clone, Copy)]
 pub enum Long {
     Read { value: u32, next: usize },
     Bad,
 }
 
 // Eight hexadecimal digits that were read and the place after them, or no such digits.
-#[derive(Drop)]
+#[derive(Clone, Copy)]
 pub enum Hex {
     Read { value: u32, next: usize },
     Bad,

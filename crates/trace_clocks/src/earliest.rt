@@ -5,7 +5,7 @@ ghost use Rattle.trace_clocks.specs.Inner.{none_kept, kept_before, WithLine};
 use trace_events::Side;
 
 // The smallest `to` of all lines that switches handle, and of the messages among them; the largest number where there is none.
-#[derive(Drop)]
+#[derive(Clone, Copy)]
 pub struct Earliest {
     pub all: u32,
     pub messages: u32,

@@ -6,7 +6,7 @@ use crate::head::Head;
 use crate::side::{Side, side_of};
 use flow_table::Operation;
 
-#[derive(Drop)]
+#[derive(Clone, Copy)]
 pub struct Event {
     pub head: Head,
     pub operation: Operation,

@@ -5,7 +5,7 @@ ghost use Rattle.trace_events.specs.Precedence.{token_step};
 
 use crate::tokens::Tokens;
 
-#[derive(Drop)]
+#[derive(Clone, Copy)]
 pub struct Head {
     pub ins: Tokens,
     pub outs: Tokens,

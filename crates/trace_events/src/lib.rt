@@ -1,4 +1,5 @@
 // The events of a trace, and when an event directly precedes a later one.
+#![tactic(auto)]
 pub mod barriers;
 pub mod event;
 pub mod head;

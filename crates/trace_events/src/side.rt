@@ -8,7 +8,7 @@ use flow_table::Operation;
 
 // Whether its line takes tokens in and puts tokens out; its switch, whether barriers of it order the event, and whether it is one;
 // whether a switch handles it, and when at the earliest and at the latest.
-#[derive(Drop)]
+#[derive(Clone, Copy)]
 pub struct Side {
     pub takes: bool,
     pub puts: bool,

@@ -4,7 +4,7 @@ ghost use Rattle.basics.specs.Searches.{has, shares};
 ghost use Rattle.trace_events.specs.Events.{tokens_of, no_tokens};
 
 // None to four numbers: the first `count` of the four, all of them where it is more.
-#[derive(Drop)]
+#[derive(Clone, Copy)]
 pub struct Tokens {
     pub t0: u16,
     pub t1: u16,

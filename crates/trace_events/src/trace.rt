@@ -7,7 +7,7 @@ use crate::event::Event;
 use crate::head::Head;
 use flow_table::Operation;
 
-#[derive(Drop)]
+#[derive(Clone, Copy)]
 pub struct Trace {
     pub events: [Event; 256],
     pub len: usize,

@@ -1,4 +1,5 @@
 // The head of a line: `in`, `out`, `from` and `to`.
+#![tactic(auto)]
 ghost use Rattle.std.specs.Prelude.{◌≡◌};
 ghost use Rattle.refusals.specs.Checks.{refuse_none};
 ghost use Rattle.trace_head.specs.Heads.{read_head};
@@ -10,7 +11,7 @@ use trace_events::Head;
 use trace_tokens::{TokensRead, tokens_at};
 
 // A head that was read and the place after it, or the refusal of the line.
-#[derive(Drop)]
+#[derive(Clone, Copy)]
 pub enum HeadRead {
     Read { value: Head, next: usize },
     Refused(Refusal),

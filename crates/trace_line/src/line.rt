@@ -13,7 +13,7 @@ use trace_operation::{OperationRead, operation_at};
 use trace_words::{Word, WordRead, word_at};
 
 // The event of a line, or its refusal.
-#[derive(Drop)]
+#[derive(Clone, Copy)]
 pub enum EventRead {
     Read(Event),
     Refused(Refusal),

@@ -20,7 +20,7 @@ use trace_words::{SwitchWord, Word, Write, write_of};
 const LAST_SWITCH: u16 = 15;
 
 // An operation that was read and the place after it, or the refusal of the line.
-#[derive(Drop)]
+#[derive(Clone, Copy)]
 pub enum OperationRead {
     Read { value: Operation, next: usize },
     Refused(Refusal),

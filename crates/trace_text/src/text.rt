@@ -16,7 +16,7 @@ use trace_events::Trace;
 use trace_line::{EventRead, event_line};
 
 // Accepted, the trace holds the events; refused, none.
-#[derive(Drop)]
+#[derive(Clone, Copy)]
 pub struct TraceRead {
     pub trace: Trace,
     pub outcome: Outcome,

@@ -1,4 +1,5 @@
 // The tokens of `in` or `out`: `-`, or one to four numbers with commas, strictly rising.
+#![tactic(auto)]
 ghost use Rattle.std.specs.Prelude.{◌≡◌, [], ◌∷◌, ◌++◌, ◌<◌};
 ghost use Rattle.text_numbers.specs.Reading.{keyed, mapped};
 ghost use Rattle.trace_events.specs.Events.{tokens_of};
@@ -9,7 +10,7 @@ use text_numbers::{Number, byte_at, read_number, starts_with};
 use trace_events::Tokens;
 
 // What follows a token: a number above it and the place after that, the list's end, or neither.
-#[derive(Drop)]
+#[derive(Clone, Copy)]
 pub enum NextToken {
     Token { value: u16, next: usize },
     End,
@@ -17,7 +18,7 @@ pub enum NextToken {
 }
 
 // Tokens that were read and the place after them, or no such tokens.
-#[derive(Drop)]
+#[derive(Clone, Copy)]
 pub enum TokensRead {
     Read { value: Tokens, next: usize },
     Bad,

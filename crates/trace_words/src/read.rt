@@ -10,7 +10,7 @@ use flow_table::Origin;
 use text_numbers::starts_with;
 
 // A word that was read and the place after its space, or no such word.
-#[derive(Drop)]
+#[derive(Clone, Copy)]
 pub enum WordRead {
     Read { value: Word, next: usize },
     Bad,

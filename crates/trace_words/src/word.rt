@@ -6,7 +6,7 @@ use flow::Entry;
 use flow_table::{Operation, Origin, TableOperation};
 
 // The writes that carry an entry: `add`, `addc`, `mods`, `modn`.
-#[derive(Drop)]
+#[derive(Clone, Copy)]
 pub enum Write {
     Add,
     AddChecked,
@@ -15,7 +15,7 @@ pub enum Write {
 }
 
 // The words of what happens on a switch: all but `oth`.
-#[derive(Drop)]
+#[derive(Clone, Copy)]
 pub enum SwitchWord {
     Barrier,
     Message,
@@ -25,7 +25,7 @@ pub enum SwitchWord {
     Delete,
 }
 
-#[derive(Drop)]
+#[derive(Clone, Copy)]
 pub enum Word {
     Other,
     On(SwitchWord),

@@ -1,1 +1,2 @@
 // Tried orders in document 01's words. Definitions and theorems only.
+#![tactic(auto)]

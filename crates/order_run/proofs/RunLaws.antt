@@ -1,5 +1,5 @@
 -- The turns of a run: one event more. Assumes nothing.
-use mathlib.Core.Path.{◌≡◌, sym, ap}
+use mathlib.Core.Path.{◌≡◌, sym, ap, ◌∙◌, subst}
 use mathlib.Core.Bool.{cond}
 use mathlib.Core.List.{List}
 use Prim.Native.Nat.{ℕ, ◌+◌, ◌≤◌, ◌<◌}
@@ -8,9 +8,14 @@ use lib.Dec.{ltb}
 use lib.ListN.{length, get_or, set, take, length-set, length-take, get_or-eq_default}
 use borrow.Author.Tests.{ltb-true, ltb-false}
 use Rattle.basics.proofs.Booleans.{split}
+use Rattle.flow_table.specs.FlowTable.{effect_of}
+use Rattle.flow_table.specs.Switches.{switch_of}
 use Rattle.rows.specs.Rows.{SortedRows}
+use Rattle.rows_step.specs.declared.work.Work.{Work}
+use Rattle.rows_step.specs.Inner.{work_of, WorkFor}
 use Rattle.rows_step.specs.Stepping.{step_rows, answer_rows}
 use Rattle.rows_step.proofs.Steps.{sorted_step}
+use Rattle.rows_step.proofs.Works.{work_for}
 use Rattle.trace_events.specs.Events.{events_of, no_event}
 use Rattle.trace_events.proofs.TraceLaws.{event_at_lem}
 use Rattle.replay_answers.specs.Inner.{kept, kept_at}
@@ -25,6 +30,11 @@ operation_here t e =
     split (ltb e t.len)
     (λ u. rw u (sym (ap (λ v. v.operation) (event_at_lem t e (ltb-true e t.len u)))))
     (λ u. rw u (sym (ap (λ v. v.operation) (get_or-eq_default (take t.len t.events) no_event {n = e} (omega (arith, length-take t.len t.events, ltb-false e t.len u))))))
+
+-- the work is that of event e
+pub work_of_event : (t : Trace) (e : ℕ) {o : Operation} {w : Work} → o ≡ cond (ltb e t.len) (get_or t.events e no_event).operation Operation.Other
+    → w ≡ work_of (switch_of o) (effect_of o) → WorkFor (switch_of (operation_at (events_of t) e)) (effect_of (operation_at (events_of t) e)) w
+work_of_event t e {o} {w} p q = subst (λ u. WorkFor (switch_of u) (effect_of u) w) (p ∙ operation_here t e) (subst (WorkFor (switch_of o) (effect_of o)) (sym q) (work_for (switch_of o) (effect_of o)))
 
 -- a run of o that has come to place p, with its rows in an array
 pub record Runs (es : List Event) (o : List ℕ) (start : List Row) (len₀ p : ℕ) (ks : List Kept) (len : ℕ) (l : List Row) : Type 0 where

@@ -26,7 +26,7 @@ bounds-t-e c = omega (arith, c.type_inv.order c.loop-p.p, c.loop-p.invariant.0)
 -- the pass
 pub loop-i-init : goal.loop-i-init
 loop-i-init c =
-    let work = work_of_event _ _ c.operation_of-operation.ensures c.event_work-work.ensures in
+    let work = work_of_event c.args.t (get_or c.args.order.now c.loop-p.p 0) c.operation_of-operation.ensures c.event_work-work.ensures in
     pass_start _ _ _ c.loop-p.invariant.1.size (omega (arith, c.requires.0, c.requires.1, c.loop-p-test.true, c.loop-p.invariant.1.count)) work.fresh _ c.first-i.ensures
 
 pub offset_bounds-rows-i : goal.offset_bounds-rows-i
@@ -66,7 +66,7 @@ bounds-answers-e c = omega (arith, c.type_inv.order c.loop-p.p, c.loop-p.invaria
 pub loop-p-preserved-in-Nothing : goal.loop-p-preserved-in-Nothing
 loop-p-preserved-in-Nothing c =
     let known : get_or c.args.order.now c.loop-p.p 0 < 256 = omega (arith, c.type_inv.order c.loop-p.p) in
-    let work = work_of_event _ _ c.operation_of-operation.ensures c.event_work-work.ensures in
+    let work = work_of_event c.args.t (get_or c.args.order.now c.loop-p.p 0) c.operation_of-operation.ensures c.event_work-work.ensures in
     let s = pass_end _ _ _ _ _ _ _ _ c.loop-i.invariant c.loop-i-test.false _ work c.loop-p.invariant.1.sorted _ c.unless-left.ensures in
     (c.loop-p.invariant.0, run_turn _ _ _ _ _ _ _ _ c.loop-p.invariant.1 c.loop-p-test.true known _ _ _ (omega (arith, s.most)) s.size (none_put s c.in-Nothing.is) s.answered)
 
@@ -91,7 +91,7 @@ loop-search-smaller c = search_less _ _ c.middle-middle.ensures.0 c.middle-middl
 
 pub loop-search-preserved : goal.loop-search-preserved
 loop-search-preserved c =
-    let work = work_of_event _ _ c.operation_of-operation.ensures c.event_work-work.ensures in
+    let work = work_of_event c.args.t (get_or c.args.order.now c.loop-p.p 0) c.operation_of-operation.ensures c.event_work-work.ensures in
     let s = pass_end _ _ _ _ _ _ _ _ c.loop-i.invariant c.loop-i-test.false _ work c.loop-p.invariant.1.sorted _ c.unless-left.ensures in
     search_turn _ _ _ _ c.loop-search.invariant _ c.middle-middle.ensures.0 c.middle-middle.ensures.1 _ c.narrowed-next.ensures s.sorted
 
@@ -133,7 +133,7 @@ pub loop-p-preserved : goal.loop-p-preserved
 loop-p-preserved c =
     let known : get_or c.args.order.now c.loop-p.p 0 < 256 = omega (arith, c.type_inv.order c.loop-p.p) in
     let fits : c.loop-i.k < 512 = omega (arith, c.requires.0, c.requires.1, c.loop-p-test.true, c.loop-p.invariant.1.count, c.loop-i.invariant.below, c.loop-i.invariant.within) in
-    let work = work_of_event _ _ c.operation_of-operation.ensures c.event_work-work.ensures in
+    let work = work_of_event c.args.t (get_or c.args.order.now c.loop-p.p 0) c.operation_of-operation.ensures c.event_work-work.ensures in
     let s = pass_end _ _ _ _ _ _ _ _ c.loop-i.invariant c.loop-i-test.false _ work c.loop-p.invariant.1.sorted _ c.unless-left.ensures in
     let p = search_end _ _ _ _ c.loop-search.invariant c.loop-search-test.false in
     let more = (bounds c.loop-search.search.at c.loop-i.k c.loop-i.rows _ _ c.loop-search.search.same c.room_in-room.ensures s.size (omega (arith, c.loop-search.invariant.within))).2 in

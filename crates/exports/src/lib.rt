@@ -7,7 +7,7 @@ ghost use Rattle.list_call.specs.Races.{list_races, list_answer, list_out};
 ghost use Rattle.tables_normal.specs.Normal.{normalised, normal_answer};
 ghost use Rattle.page_call.specs.Paged.{paged, page_answer};
 ghost use Rattle.share_call.specs.Shared.{shared, share_answer};
-ghost use Rattle.replay_texts.specs.Writing.{replay_answer, tables_out, answers_out};
+ghost use Rattle.replay_texts.specs.Writing.{replay_answer, tables_to_write, answers_to_write};
 ghost use Rattle.replay_call.specs.Replay.{replayed};
 ghost use Rattle.trials_call.specs.Tried.{tried, trials_answer};
 
@@ -68,8 +68,8 @@ pub extern "C" fn gellunka_replay<'a>(
     answered: &mut [u8],
 ) -> Replayed
     ensures value { result ≡ replay_as trace.now tables.now (replay_answer (replayed delay trace.now tables.now order.now (length out.old) (length answered.old))) }
-    ensures out_after { out.new ≡ written (tables_out (replayed delay trace.now tables.now order.now (length out.old) (length answered.old))) out.old }
-    ensures answered_after { answered.new ≡ written (answers_out (replayed delay trace.now tables.now order.now (length out.old) (length answered.old))) answered.old }
+    ensures out_after { out.new ≡ written (tables_to_write (replayed delay trace.now tables.now order.now (length out.old) (length answered.old))) out.old }
+    ensures answered_after { answered.new ≡ written (answers_to_write (replayed delay trace.now tables.now order.now (length out.old) (length answered.old))) answered.old }
 {
     let answer = replay_call::replay(trace, tables, order, delay, out, answered);
     replay_as(trace, tables, answer)

@@ -19,7 +19,7 @@ use Rattle.page_text.specs.Page.{page_text}
 use Rattle.page_call.specs.Paged.{paged, page_answer}
 use Rattle.share.specs.Share.{share_of}
 use Rattle.share_call.specs.Shared.{shared, share_answer}
-use Rattle.replay_texts.specs.Writing.{Replayed, replay_answer, tables_out, answers_out}
+use Rattle.replay_texts.specs.Writing.{Replayed, replay_answer, tables_to_write, answers_to_write}
 use Rattle.rows.specs.Rows.{tables_of}
 use Rattle.order_check.specs.Schedule.{check_order}
 use Rattle.replay_texts.specs.Inner.{fitting_both}
@@ -185,8 +185,8 @@ replay_does delay trace tables o old old' = go (replayed delay trace tables o (l
       refusal = r;
       first = (replay_refused_iff delay trace tables o (length old) (length old') r).0 e;
       returned = ap replay_answer e;
-      unchanged = ap (λ y. written (tables_out y) old) e;
-      unchanged' = ap (λ y. written (answers_out y) old') e;
+      unchanged = ap (λ y. written (tables_to_write y) old) e;
+      unchanged' = ap (λ y. written (answers_to_write y) old') e;
     })
     go (inr x) e =
         let (es, h, (rs, k, f)) = replayed_on delay trace tables o (length old) (length old') x e in
@@ -202,8 +202,8 @@ replay_does delay trace tables o old old' = go (replayed delay trace tables o (l
           ends_are = refl;
           lines_are = refl;
           returned = ap replay_answer g;
-          bytes = ap (λ y. written (tables_out y) old) g;
-          bytes' = ap (λ y. written (answers_out y) old') g;
+          bytes = ap (λ y. written (tables_to_write y) old) g;
+          bytes' = ap (λ y. written (answers_to_write y) old') g;
         })
 
 trials_does : (delay : ℕ) (trace tables os old : List ℕ) → TrialsRefused delay trace tables os old ⊎ TrialsDone delay trace tables os old

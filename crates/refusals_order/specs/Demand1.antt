@@ -16,7 +16,7 @@ use Rattle.share.specs.Share.{share_of}
 use Rattle.share_call.specs.Shared.{shared, share_answer}
 use Rattle.order_meaning.specs.Tables.{end_tables}
 use Rattle.order_rows.specs.Runs.{operation_at}
-use Rattle.replay_texts.specs.Writing.{replay_answer, tables_out, answers_out}
+use Rattle.replay_texts.specs.Writing.{replay_answer, tables_to_write, answers_to_write}
 use Rattle.replay_call.specs.Replay.{answer_lines, replayed}
 use Rattle.order_trials.specs.Trials.{order_bytes}
 use Rattle.trials_call.specs.Tried.{tried, trials_answer}
@@ -88,8 +88,8 @@ module _ (delay : ℕ) (trace tables o old old' : List ℕ) where
     pub refusal : Refusal
     pub first : FirstOf (replay_causes delay trace tables o (length old) (length old')) refusal
     pub returned : replay_answer (replayed delay trace tables o (length old) (length old')) ≡ ReplayAnswer.Refused refusal
-    pub unchanged : written (tables_out (replayed delay trace tables o (length old) (length old'))) old ≡ old
-    pub unchanged' : written (answers_out (replayed delay trace tables o (length old) (length old'))) old' ≡ old'
+    pub unchanged : written (tables_to_write (replayed delay trace tables o (length old) (length old'))) old ≡ old
+    pub unchanged' : written (answers_to_write (replayed delay trace tables o (length old) (length old'))) old' ≡ old'
 
   pub record ReplayDone : Type 0 where
     pub none : NoneOf (replay_causes delay trace tables o (length old) (length old'))
@@ -103,8 +103,8 @@ module _ (delay : ℕ) (trace tables o old old' : List ℕ) where
     pub ends_are : ends ≡ tables_text (end_tables (operation_at events) o (tables_of rows))
     pub lines_are : lines ≡ answer_lines events o (tables_of rows)
     pub returned : replay_answer (replayed delay trace tables o (length old) (length old')) ≡ ReplayAnswer.Lengths (length ends) (length lines)
-    pub bytes : written (tables_out (replayed delay trace tables o (length old) (length old'))) old ≡ starting_with ends old
-    pub bytes' : written (answers_out (replayed delay trace tables o (length old) (length old'))) old' ≡ starting_with lines old'
+    pub bytes : written (tables_to_write (replayed delay trace tables o (length old) (length old'))) old ≡ starting_with ends old
+    pub bytes' : written (answers_to_write (replayed delay trace tables o (length old) (length old'))) old' ≡ starting_with lines old'
 
 -- ---- many orders, end to end, on a trace, a table text and a buffer
 module _ (delay : ℕ) (trace tables os old : List ℕ) where

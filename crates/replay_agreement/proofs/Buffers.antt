@@ -9,7 +9,7 @@ use lib.ListN.{length}
 use borrow.Author.Tests.{le-ltb}
 use Rattle.text_reader.proofs.Each.{accepts}
 use Rattle.refusals.specs.Checks.{Checked, ◌▹◌, refuse_if, written}
-use Rattle.replay_texts.specs.Writing.{Replayed, replay_answer, tables_out, answers_out}
+use Rattle.replay_texts.specs.Writing.{Replayed, replay_answer, tables_to_write, answers_to_write}
 use Rattle.replay_texts.specs.Inner.{fitting_both}
 use Rattle.replay_call.specs.Replay.{replayed}
 use Rattle.replay_agreement.specs.Types.{Refusal}
@@ -39,6 +39,6 @@ enough delay s t o x a b e h k =
 pub writes : (delay : ℕ) (s t o : List ℕ) (x : Replayed) (old old' : List ℕ) → replayed delay s t o (length old) (length old') ≡ inr x → Writes delay x.tables x.answers s t o old old'
 writes delay s t o x old old' e = record {
   returned = ap replay_answer e;
-  tables_written = ap (λ y. written (tables_out y) old) e;
-  answers_written = ap (λ y. written (answers_out y) old') e;
+  tables_written = ap (λ y. written (tables_to_write y) old) e;
+  answers_written = ap (λ y. written (answers_to_write y) old') e;
 }

@@ -3,7 +3,7 @@ use Rattle.std.specs.Prelude.{◌≡◌, List, ℕ, length}
 use Rattle.std.proofs.Common.{inl}
 use Rattle.basics.specs.Text.{starting_with}
 use Rattle.refusals.specs.Checks.{written}
-use Rattle.replay_texts.specs.Writing.{replay_answer, tables_out, answers_out}
+use Rattle.replay_texts.specs.Writing.{replay_answer, tables_to_write, answers_to_write}
 use Rattle.replay_call.specs.Replay.{replayed}
 use Rattle.replay_agreement.specs.Types.{Refusal, ReplayAnswer}
 
@@ -16,5 +16,5 @@ pub record LongEnough (delay : ℕ) (trace tables o : List ℕ) (room room' : �
 -- it unchanged
 pub record Writes (delay : ℕ) (ends answers : List ℕ) (trace tables o old old' : List ℕ) : Type 0 where
   pub returned : replay_answer (replayed delay trace tables o (length old) (length old')) ≡ ReplayAnswer.Lengths (length ends) (length answers)
-  pub tables_written : written (tables_out (replayed delay trace tables o (length old) (length old'))) old ≡ starting_with ends old
-  pub answers_written : written (answers_out (replayed delay trace tables o (length old) (length old'))) old' ≡ starting_with answers old'
+  pub tables_written : written (tables_to_write (replayed delay trace tables o (length old) (length old'))) old ≡ starting_with ends old
+  pub answers_written : written (answers_to_write (replayed delay trace tables o (length old) (length old'))) old' ≡ starting_with answers old'

@@ -15,7 +15,7 @@ use Rattle.order_check.specs.Schedule.{check_order}
 use Rattle.order_check.proofs.Accepted.{accepted_complete}
 use Rattle.replay_answers.specs.Inner.{kept_at}
 use Rattle.order_run.specs.Inner.{RunsTo}
-use Rattle.replay_texts.specs.Writing.{replay_answer, tables_out, answers_out}
+use Rattle.replay_texts.specs.Writing.{replay_answer, tables_to_write, answers_to_write}
 use Rattle.replay_texts.specs.Inner.{both_texts, fitting_both, Leaves}
 use Rattle.replay_texts.proofs.Leaving.{leaves_as, refused_as_lem}
 use Rattle.replay_call.specs.Types.{Refusal, Event, Trace, Row, Rows, Ran, ReplayAnswer}
@@ -66,5 +66,5 @@ start_sorted delay s t es rs p = accepted_sorted t rs (both_accepted delay s t e
 -- ---- the call's contract
 pub called : (delay : ℕ) (s t o old old' : List ℕ) {r : ReplayAnswer} {new new' : List ℕ} → Leaves (replayed delay s t o (length old) (length old')) r old new old' new'
     → (r ≡ replay_answer (replayed delay s t o (length old) (length old')))
-    × ((new ≡ written (tables_out (replayed delay s t o (length old) (length old'))) old) × (new' ≡ written (answers_out (replayed delay s t o (length old) (length old'))) old'))
+    × ((new ≡ written (tables_to_write (replayed delay s t o (length old) (length old'))) old) × (new' ≡ written (answers_to_write (replayed delay s t o (length old) (length old'))) old'))
 called delay s t o old old' l = (l.answer, (l.tables, l.answers))

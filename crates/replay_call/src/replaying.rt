@@ -3,7 +3,7 @@ ghost use Rattle.std.specs.Prelude.{◌≡◌, ◌≤◌, length};
 ghost use Rattle.refusals.specs.Checks.{written};
 ghost use Rattle.trace_events.specs.Events.{events_of};
 ghost use Rattle.rows.specs.Rows.{rows_of, SortedRows};
-ghost use Rattle.replay_texts.specs.Writing.{replay_answer, tables_out, answers_out};
+ghost use Rattle.replay_texts.specs.Writing.{replay_answer, tables_to_write, answers_to_write};
 ghost use Rattle.replay_texts.specs.Inner.{fitting_both, Leaves};
 ghost use Rattle.replay_call.specs.Replay.{replayed};
 ghost use Rattle.replay_call.specs.Inner.{row_texts, ordered_from};
@@ -65,8 +65,8 @@ pub fn replay(
     answers_out: &mut [u8],
 ) -> ReplayAnswer
     ensures value { result ≡ replay_answer (replayed delay trace.now tables.now order.now (length tables_out.old) (length answers_out.old)) }
-    ensures tables_out_after { tables_out.new ≡ written (tables_out (replayed delay trace.now tables.now order.now (length tables_out.old) (length answers_out.old))) tables_out.old }
-    ensures answers_out_after { answers_out.new ≡ written (answers_out (replayed delay trace.now tables.now order.now (length tables_out.old) (length answers_out.old))) answers_out.old }
+    ensures tables_out_after { tables_out.new ≡ written (tables_to_write (replayed delay trace.now tables.now order.now (length tables_out.old) (length answers_out.old))) tables_out.old }
+    ensures answers_out_after { answers_out.new ≡ written (answers_to_write (replayed delay trace.now tables.now order.now (length tables_out.old) (length answers_out.old))) answers_out.old }
 {
     let read = read_both(trace, tables, delay);
     let outcome = read.outcome;

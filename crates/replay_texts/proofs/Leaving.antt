@@ -12,12 +12,12 @@ use Rattle.text_numbers.proofs.Writing.{put_whole}
 use Rattle.tables_normal.specs.Normal.{normal_text}
 use Rattle.replay_answers.specs.Answers.{answers_text}
 use Rattle.replay_texts.specs.Types.{Refusal, Answer, Row, ReplayAnswer}
-use Rattle.replay_texts.specs.Writing.{Replayed, replay_answer, tables_out, answers_out}
+use Rattle.replay_texts.specs.Writing.{Replayed, replay_answer, tables_to_write, answers_to_write}
 use Rattle.replay_texts.specs.Inner.{both_texts, fitting_both, Leaves}
 
 module _ {y z : Checked Replayed} {r : ReplayAnswer} {old new old' new' : List ℕ} where
   pub leaves_as : y ≡ z → Leaves y r old new old' new' → Leaves z r old new old' new'
-  leaves_as e l = record { answer = l.answer ∙ ap replay_answer e; tables = l.tables ∙ ap (λ x. written (tables_out x) old) e; answers = l.answers ∙ ap (λ x. written (answers_out x) old') e }
+  leaves_as e l = record { answer = l.answer ∙ ap replay_answer e; tables = l.tables ∙ ap (λ x. written (tables_to_write x) old) e; answers = l.answers ∙ ap (λ x. written (answers_to_write x) old') e }
 
 -- after a refusal both buffers are as they were
 pub refused_as_lem : {y : Checked Replayed} {e : Refusal} {old old' : List ℕ} → inl e ≡ y → Leaves y (ReplayAnswer.Refused e) old old old' old'

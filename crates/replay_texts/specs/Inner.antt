@@ -5,7 +5,7 @@ use Rattle.tables_normal.specs.Normal.{normal_text}
 use Rattle.replay_answers.specs.Answers.{answers_text}
 use Rattle.refusals.specs.Checks.{Checked, ◌▹◌, refuse_short, written}
 use Rattle.replay_texts.specs.Types.{Refusal, Answer, Row, ReplayAnswer}
-use Rattle.replay_texts.specs.Writing.{Replayed, replay_answer, tables_out, answers_out}
+use Rattle.replay_texts.specs.Writing.{Replayed, replay_answer, tables_to_write, answers_to_write}
 
 -- both texts, of the end rows and the answers of the events below n
 unfoldable pub both_texts : List Row → (ℕ → Answer) → ℕ → Replayed
@@ -21,5 +21,5 @@ fitting_both x room room' =
 -- an answer and two buffers, before and after, are as a replay leaves them
 pub record Leaves (y : Checked Replayed) (r : ReplayAnswer) (old new old' new' : List ℕ) : Type 0 where
   pub answer : r ≡ replay_answer y
-  pub tables : new ≡ written (tables_out y) old
-  pub answers : new' ≡ written (answers_out y) old'
+  pub tables : new ≡ written (tables_to_write y) old
+  pub answers : new' ≡ written (answers_to_write y) old'

@@ -15,8 +15,8 @@ replay_answer (inl r) = ReplayAnswer.Refused r
 replay_answer (inr x) = ReplayAnswer.Lengths (length x.tables) (length x.answers)
 
 -- what is written into each buffer
-abbrev pub tables_out : Checked Replayed → Checked (List ℕ)
-tables_out y = y ▹ λ x. inr x.tables
+abbrev pub tables_to_write : Checked Replayed → Checked (List ℕ)
+tables_to_write y = y ▹ λ x. inr x.tables
 
-abbrev pub answers_out : Checked Replayed → Checked (List ℕ)
-answers_out y = y ▹ λ x. inr x.answers
+abbrev pub answers_to_write : Checked Replayed → Checked (List ℕ)
+answers_to_write y = y ▹ λ x. inr x.answers

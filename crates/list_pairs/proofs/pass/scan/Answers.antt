@@ -27,8 +27,7 @@ loop-i-init c = (omega arith, search (rules, length_mapped), c.no_counts-sum.ens
 
 pub loop-j-init : goal.loop-j-init
 loop-j-init c =
-    let es = events_of c.args.t in
-    (
+    let es = events_of c.args.t in (
       omega arith,
       omega arith,
       λ k. rw (row_start (test _ k es) c.loop-i.i) (omega arith),

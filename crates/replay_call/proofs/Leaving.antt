@@ -5,7 +5,7 @@ use mathlib.Core.Logic.{inl, inr}
 use Prim.Native.Nat.{ℕ, ◌≤◌}
 use native.Mathlib.Omega.{arith}
 use lib.ListN.{length, length-take}
-use Rattle.refusals.specs.Checks.{◌▹◌, written}
+use Rattle.refusals.specs.Checks.{◌▹◌}
 use Rattle.trace_events.specs.Events.{events_of}
 use Rattle.rows.specs.Rows.{rows_of, SortedRows, tables_of}
 use Rattle.tables_text.proofs.Accepted.{accepted_sorted}
@@ -15,7 +15,6 @@ use Rattle.order_check.specs.Schedule.{check_order}
 use Rattle.order_check.proofs.Accepted.{accepted_complete}
 use Rattle.replay_answers.specs.Inner.{kept_at}
 use Rattle.order_run.specs.Inner.{RunsTo}
-use Rattle.replay_texts.specs.Writing.{replay_answer, tables_to_write, answers_to_write}
 use Rattle.replay_texts.specs.Inner.{both_texts, fitting_both, Leaves}
 use Rattle.replay_texts.proofs.Leaving.{leaves_as, refused_as_lem}
 use Rattle.replay_call.specs.Types.{Refusal, Event, Trace, Row, Rows, Ran, ReplayAnswer}
@@ -62,9 +61,3 @@ module _ (delay : ℕ) (s t o : List ℕ) (a b : ℕ) where
 -- the rows of accepted tables are in order
 pub start_sorted : (delay : ℕ) (s t : List ℕ) (es : List Event) (rs : List Row) → inr (es, rs) ≡ read_both delay s t → SortedRows rs
 start_sorted delay s t es rs p = accepted_sorted t rs (both_accepted delay s t es rs (sym p)).1
-
--- ---- the call's contract
-pub called : (delay : ℕ) (s t o old old' : List ℕ) {r : ReplayAnswer} {new new' : List ℕ} → Leaves (replayed delay s t o (length old) (length old')) r old new old' new'
-    → (r ≡ replay_answer (replayed delay s t o (length old) (length old')))
-    × ((new ≡ written (tables_to_write (replayed delay s t o (length old) (length old'))) old) × (new' ≡ written (answers_to_write (replayed delay s t o (length old) (length old'))) old'))
-called delay s t o old old' l = (l.answer, (l.tables, l.answers))

@@ -19,7 +19,9 @@ pub slice_bounds-recorded-end : goal.slice_bounds-recorded-end
 slice_bounds-recorded-end c = omega (arith, c.requires.0, c.recorded_order-recorded.ensures.0)
 
 pub slice_bounds-try_each-end : goal.slice_bounds-try_each-end
-slice_bounds-try_each-end c = omega (arith, c.requires.0, c.recorded_order-recorded.ensures.0)
+slice_bounds-try_each-end c =
+    let enough : c.args.t.len ≤ length c.recorded_order-recorded.result = omega (arith, c.requires.0, c.recorded_order-recorded.ensures.0) in
+    sym (length-take-le _ _ enough)
 
 pub try_each-requires : goal.try_each-requires
 try_each-requires c =

@@ -1,6 +1,7 @@
 // What the runs of a trace's events from given tables share, worked out once: the slots, and for each event the set of those that it
 // asks about and its plan.
 #![tactic(auto)]
+
 pub mod asking;
 pub mod gathering;
 pub mod masks;

@@ -14,15 +14,14 @@ pub loop-i-init : goal.loop-i-init
 loop-i-init c = (omega arith, c.requires, search (rules, length_mapped), c.no_bits-all.ensures, λ k l. absurd (omega arith))
 
 pub loop-i-preserved : goal.loop-i-preserved
-loop-i-preserved c =
-    (
-      omega arith,
-      c.loop-i.invariant.1,
-      c.loop-i.invariant.2,
-      simp length-set c.loop-i.invariant.3,
-      stored_more (λ k b. (d : Row) → BitsFor (get_or c.args.slots.rows k d) b) no_bits c.loop-i.all c.loop-i.i (omega arith)
-          (λ d. subst (λ x. BitsFor x c.of.result) (get_d_any c.args.slots.rows c.loop-i.i _ d (omega arith)) c.of.ensures) c.loop-i.invariant.4,
-    )
+loop-i-preserved c = (
+  omega arith,
+  c.loop-i.invariant.1,
+  c.loop-i.invariant.2,
+  simp length-set c.loop-i.invariant.3,
+  stored_more (λ k b. (d : Row) → BitsFor (get_or c.args.slots.rows k d) b) no_bits c.loop-i.all c.loop-i.i (omega arith)
+      (λ d. subst (λ x. BitsFor x c.of.result) (get_d_any c.args.slots.rows c.loop-i.i _ d (omega arith)) c.of.ensures) c.loop-i.invariant.4,
+)
 
 pub returns : goal.returns
 returns c =

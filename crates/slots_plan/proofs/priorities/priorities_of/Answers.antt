@@ -13,14 +13,13 @@ pub loop-i-init : goal.loop-i-init
 loop-i-init c = (omega arith, c.requires, search (rules, length_mapped), refl, λ k l. absurd (omega arith))
 
 pub loop-i-preserved : goal.loop-i-preserved
-loop-i-preserved c =
-    (
-      omega arith,
-      c.loop-i.invariant.1,
-      c.loop-i.invariant.2,
-      simp length-set c.loop-i.invariant.3,
-      stored_more (λ k v. (d : Row) → v ≡ (get_or c.args.slots.rows k d).entry.key.priority) 0 c.loop-i.priorities c.loop-i.i (omega arith) (λ d. ap (λ x. x.entry.key.priority) (get_d_any c.args.slots.rows c.loop-i.i _ d (omega arith))) c.loop-i.invariant.4,
-    )
+loop-i-preserved c = (
+  omega arith,
+  c.loop-i.invariant.1,
+  c.loop-i.invariant.2,
+  simp length-set c.loop-i.invariant.3,
+  stored_more (λ k v. (d : Row) → v ≡ (get_or c.args.slots.rows k d).entry.key.priority) 0 c.loop-i.priorities c.loop-i.i (omega arith) (λ d. ap (λ x. x.entry.key.priority) (get_d_any c.args.slots.rows c.loop-i.i _ d (omega arith))) c.loop-i.invariant.4,
+)
 
 pub returns : goal.returns
 returns c i d h =

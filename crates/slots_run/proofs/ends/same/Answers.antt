@@ -8,18 +8,16 @@ use Rattle.slots_run.proofs.ends.same.Goals as goal
 
 -- The sets tell, then the codes of the slots held, then the answers.
 pub returns-then-not-same_set : goal.returns-then-not-same_set
-returns-then-not-same_set c slots sorted few in-a in_b =
-    (
-      λ e. absurd (false≢true e),
-      λ q. absurd (false≢true (sym (not-true _ c.if-not-same_set.true-raw) ∙ c.same_set.ensures.1 (rows_sets slots sorted c.args.a c.args.b in-a in_b q.0))),
-    )
+returns-then-not-same_set c slots sorted few in-a in_b = (
+  λ e. absurd (false≢true e),
+  λ q. absurd (false≢true (sym (not-true _ c.if-not-same_set.true-raw) ∙ c.same_set.ensures.1 (rows_sets slots sorted c.args.a c.args.b in-a in_b q.0))),
+)
 
 pub returns-then-not-same_codes : goal.returns-then-not-same_codes
-returns-then-not-same_codes c slots sorted few in-a in_b =
-    (
-      λ e. absurd (false≢true e),
-      λ q. absurd (false≢true (sym (not-true _ c.if-not-same_codes.true-raw) ∙ c.same_codes.ensures.1 (rows_codes slots sorted c.args.a c.args.b in-a in_b q.0))),
-    )
+returns-then-not-same_codes c slots sorted few in-a in_b = (
+  λ e. absurd (false≢true e),
+  λ q. absurd (false≢true (sym (not-true _ c.if-not-same_codes.true-raw) ∙ c.same_codes.ensures.1 (rows_codes slots sorted c.args.a c.args.b in-a in_b q.0))),
+)
 
 pub returns : goal.returns
 returns c slots sorted few in-a in_b =

@@ -10,6 +10,6 @@ returns-then-assigns c = rw c.if-assigns.true c.assign.ensures
 pub returns-else-assigns : goal.returns-else-assigns
 returns-else-assigns c =
     rw c.if-assigns.false (record {
-  size = c.requires;
-  each = λ i. refl;
-})
+      size = c.requires;
+      each = λ i. refl;
+    })

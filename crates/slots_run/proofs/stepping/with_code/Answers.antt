@@ -17,6 +17,6 @@ returns-then-puts c =
 pub returns-else-puts : goal.returns-else-puts
 returns-else-puts c =
     rw c.if-puts.false (record {
-  size = c.requires.1;
-  each = λ i. refl;
-})
+      size = c.requires.1;
+      each = λ i. refl;
+    })

@@ -34,11 +34,11 @@ bounds-out-k c = omega (arith, c.loop-k-test.true, c.loop-k.invariant.1, c.requi
 
 pub loop-k-preserved : goal.loop-k-preserved
 loop-k-preserved c = (
-      omega (arith, c.loop-k-test.true),
-      simp length-set c.loop-k.invariant.1,
-      λ delay es rs ready. fill_turn (λ j. order_byte delay es (tables_of rs) (order_at c.args.n c.args.orders.now j)) c.args.out.now c.loop-k.out c.loop-k.k c.trial-byte.result (omega (arith, c.loop-k-test.true, c.requires.4))
-          (c.loop-k.invariant.2 delay es rs ready) (c.trial-byte.ensures delay es rs ready ∙ ap (order_byte delay es (tables_of rs)) (order_part c.args.n c.args.orders.now c.loop-k.k)),
-    )
+  omega (arith, c.loop-k-test.true),
+  simp length-set c.loop-k.invariant.1,
+  λ delay es rs ready. fill_turn (λ j. order_byte delay es (tables_of rs) (order_at c.args.n c.args.orders.now j)) c.args.out.now c.loop-k.out c.loop-k.k c.trial-byte.result (omega (arith, c.loop-k-test.true, c.requires.4))
+      (c.loop-k.invariant.2 delay es rs ready) (c.trial-byte.ensures delay es rs ready ∙ ap (order_byte delay es (tables_of rs)) (order_part c.args.n c.args.orders.now c.loop-k.k)),
+)
 
 pub returns : goal.returns
 returns c =

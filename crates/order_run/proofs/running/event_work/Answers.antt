@@ -1,4 +1,3 @@
-use borrow.Author.Rules.{rules}
 use Rattle.order_run.proofs.running.event_work.Goals as goal
 
 pub returns : goal.returns

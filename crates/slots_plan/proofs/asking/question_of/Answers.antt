@@ -1,5 +1,4 @@
 use mathlib.Core.Path.{refl, ap, subst, ◌∙◌}
-use borrow.Author.Rules.{rules}
 use Rattle.flow_bits.specs.Inner.{bits_of, Narrow}
 use Rattle.slots_plan.specs.Types.{Match, Bits, Question}
 use Rattle.slots_plan.proofs.AskingLaws.{in_form}

@@ -1,5 +1,4 @@
 use mathlib.Core.Path.{refl}
-use borrow.Author.Rules.{rules}
 use Rattle.slots_plan.proofs.masks.marked.Goals as goal
 
 pub returns-then-passes : goal.returns-then-passes

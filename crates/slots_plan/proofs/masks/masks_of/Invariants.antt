@@ -1,21 +1,14 @@
 -- The outer invariant: the sets of the events below e are filled. The inner: of the slots below i the set has those that pass.
 use Prim.Native.Nat.{ℕ, ◌-◌, ◌≤◌, ◌<◌}
-use native.Mathlib.Omega.{arith}
-use mathlib.Core.Path.{◌≡◌, subst}
-use mathlib.Core.Bool.{◌&&◌}
+use mathlib.Core.Path.{◌≡◌}
 use mathlib.Core.List.{[]}
-use lib.Dec.{eqb}
-use lib.ListN.{length, get_or, length-set}
-use borrow.Author.Rules.{rules}
-use Rattle.basics.proofs.Arrays.{length_mapped}
+use lib.ListN.{length, get_or}
 use Rattle.rows.specs.Rows.{rows_of}
 use Rattle.rows_step.specs.Inner.{chosen}
 use Rattle.slots.specs.Inner.{Marks}
 use Rattle.trace_events.specs.Events.{events_of}
 use Rattle.slots_plan.specs.Inner.{work_at}
-use Rattle.slots_plan.proofs.Turns.{work_here, stored_more}
-use Rattle.slots_plan.proofs.AskingLaws.{slot_asked, no_row, bits_here}
-use Rattle.slots_plan.proofs.MaskLaws.{Marking, marking_start, marking_more, marking_end}
+use Rattle.slots_plan.proofs.MaskLaws.{Marking}
 use Rattle.slots_plan.proofs.masks.masks_of.Given as goal
 
 abbrev pub invariant-loop-i : goal.invariant-loop-i

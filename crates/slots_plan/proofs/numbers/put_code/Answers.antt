@@ -1,5 +1,4 @@
 use mathlib.Core.Path.{◌∙◌, sym, ap}
-use borrow.Author.Rules.{rules}
 use Rattle.slots_plan.specs.Inner.{put_code}
 use Rattle.slots_plan.proofs.numbers.put_code.Goals as goal
 

@@ -1,13 +1,13 @@
-use Prim.Native.Nat.{ℕ, ◌-◌, ◌≤◌, ◌<◌}
+use Prim.Native.Nat.{◌≤◌}
 use native.Mathlib.Omega.{arith}
 use mathlib.Core.Path.{◌≡◌}
 use mathlib.Core.List.{[]}
-use lib.ListN.{length, get_or, length-set}
+use lib.ListN.{length, length-set}
 use lib.Seq.{length-take-le}
 use borrow.Author.Rules.{rules}
 use Rattle.basics.proofs.Arrays.{length_mapped}
 use Rattle.rows.specs.Rows.{rows_of}
-use Rattle.rows_search.proofs.Searches.{Searched, search_start, search_less, search_turn}
+use Rattle.rows_search.proofs.Searches.{search_start, search_less, search_turn}
 use Rattle.trace_events.specs.Events.{events_of}
 use Rattle.slots_plan.specs.Inner.{work_at, PlanFor}
 use Rattle.slots_plan.proofs.Turns.{work_here, stored_more}

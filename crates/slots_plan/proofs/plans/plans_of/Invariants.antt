@@ -1,18 +1,12 @@
 -- The outer invariant: the events below e have their plans. The inner: the search for the slot of the row that the event puts in.
 use Prim.Native.Nat.{ℕ, ◌-◌, ◌≤◌, ◌<◌}
-use native.Mathlib.Omega.{arith}
 use mathlib.Core.Path.{◌≡◌}
 use mathlib.Core.List.{[]}
-use lib.ListN.{length, get_or, length-set}
-use lib.Seq.{length-take-le}
-use borrow.Author.Rules.{rules}
-use Rattle.basics.proofs.Arrays.{length_mapped}
+use lib.ListN.{length, get_or}
 use Rattle.rows.specs.Rows.{rows_of}
-use Rattle.rows_search.proofs.Searches.{Searched, search_start, search_less, search_turn}
+use Rattle.rows_search.proofs.Searches.{Searched}
 use Rattle.trace_events.specs.Events.{events_of}
 use Rattle.slots_plan.specs.Inner.{work_at, PlanFor}
-use Rattle.slots_plan.proofs.Turns.{work_here, stored_more}
-use Rattle.slots_plan.proofs.PlanLaws.{plan_here, put_place}
 use Rattle.slots_plan.proofs.plans.plans_of.Given as goal
 
 abbrev pub invariant-loop-search : goal.invariant-loop-search

@@ -1,5 +1,4 @@
 use mathlib.Core.Path.{refl}
-use borrow.Author.Rules.{rules}
 use Rattle.slots_plan.proofs.plans.put_row.Goals as goal
 
 pub returns-in-Nothing : goal.returns-in-Nothing

@@ -1,13 +1,8 @@
 -- The invariant: the slots below i have their priorities.
 use Prim.Native.Nat.{ℕ, ◌-◌, ◌≤◌, ◌<◌}
-use native.Mathlib.Omega.{arith}
-use mathlib.Core.Path.{◌≡◌, refl, sym, ap, ◌∙◌}
-use lib.ListN.{length, get_or, length-set}
-use lib.Seq.{get_or-take, length-take-le}
-use borrow.Author.Rules.{rules}
-use Rattle.basics.proofs.Arrays.{length_mapped}
+use mathlib.Core.Path.{◌≡◌}
+use lib.ListN.{length, get_or}
 use Rattle.slots_plan.specs.Types.{Row}
-use Rattle.slots_plan.proofs.Turns.{stored_more, get_d_any}
 use Rattle.slots_plan.proofs.priorities.priorities_of.Given as goal
 
 abbrev pub invariant-loop-i : goal.invariant-loop-i

@@ -1,6 +1,6 @@
-use Prim.Native.Nat.{◌≤◌, ◌<◌}
+use Prim.Native.Nat.{◌≤◌}
 use native.Mathlib.Omega.{arith}
-use mathlib.Core.Path.{◌≡◌, ◌∙◌, ap, sym}
+use mathlib.Core.Path.{◌∙◌, ap, sym}
 use lib.ListN.{length}
 use lib.Seq.{get_or-take, length-take-le}
 use borrow.Author.Rules.{rules}

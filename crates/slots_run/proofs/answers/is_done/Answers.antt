@@ -2,7 +2,6 @@
 use Rattle.basics.proofs.Arrays.{by_arm}
 use mathlib.Core.Path.{refl}
 use Rattle.order_trials.specs.Same.{is_done}
-use borrow.Author.Rules.{rules}
 use Rattle.slots_run.proofs.answers.is_done.Goals as goal
 
 -- Done: by the two values.

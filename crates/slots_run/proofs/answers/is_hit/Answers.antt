@@ -2,7 +2,6 @@
 use Rattle.basics.proofs.Arrays.{by_arm}
 use mathlib.Core.Path.{refl}
 use Rattle.order_trials.specs.Same.{is_hit}
-use borrow.Author.Rules.{rules}
 use Rattle.slots_run.proofs.answers.is_hit.Goals as goal
 
 -- A hit: by priority, count and action.

@@ -1,7 +1,6 @@
 -- Each answer has a test of its own.
 use Rattle.basics.proofs.Arrays.{by_arm}
 use Rattle.order_trials.specs.Same.{same_answer}
-use borrow.Author.Rules.{rules}
 use Rattle.slots_run.proofs.answers.same_answer.Goals as goal
 
 -- Each answer has a test of its own.

@@ -2,7 +2,6 @@
 use mathlib.Core.Path.{sym, ◌∙◌}
 use mathlib.Core.Bool.{false≢true}
 use borrow.Author.Tests.{not-true, not-false}
-use borrow.Author.Rules.{rules}
 use Rattle.slots_run.proofs.SameEnds.{rows_sets, rows_codes, same_rows}
 use Rattle.slots_run.proofs.ends.same.Goals as goal
 

@@ -1,8 +1,7 @@
-use Prim.Native.Nat.{ℕ, ◌-◌, ◌≤◌, ◌<◌}
+use Prim.Native.Nat.{◌<◌}
 use native.Mathlib.Omega.{arith}
 use mathlib.Core.Path.{◌≡◌, refl, sym, ◌∙◌}
 use mathlib.Core.Bool.{false≢true}
-use lib.ListN.{length}
 use borrow.Author.Rules.{rules}
 use Rattle.basics.proofs.Arrays.{length_mapped, holds_more}
 use Rattle.basics.proofs.Booleans.{was_false, was_true}

@@ -1,9 +1,8 @@
-use Prim.Native.Nat.{◌-◌}
 use native.Mathlib.Omega.{arith}
 use mathlib.Core.Path.{refl}
 use mathlib.Core.Bool.{false≢true}
 use borrow.Author.Rules.{rules}
-use Rattle.slots_run.proofs.Comparing.{Comparing, compare_start, compare_turn, compare_end}
+use Rattle.slots_run.proofs.Comparing.{compare_start, compare_turn, compare_end}
 use Rattle.slots_run.proofs.ends.same_codes.Goals as goal
 
 pub loop-i-init : goal.loop-i-init

@@ -4,7 +4,6 @@ use native.Mathlib.Omega.{arith}
 use mathlib.Core.Path.{◌≡◌, refl, ap}
 use Rattle.slots.specs.Inner.{action_of}
 use Rattle.slots_run.specs.Types.{Action}
-use borrow.Author.Rules.{rules}
 use Rattle.slots_run.proofs.lookup.action_of.Goals as goal
 
 -- A code past 1 is a port's.

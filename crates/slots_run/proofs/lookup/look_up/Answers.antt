@@ -1,10 +1,8 @@
-use Prim.Native.Nat.{◌-◌}
 use native.Mathlib.Omega.{arith}
 use mathlib.Core.Path.{ap, ◌∙◌}
 use Rattle.flow_table.specs.FlowTable.{entry}
 use Rattle.rows_step.specs.Inner.{seen}
-use borrow.Author.Rules.{rules}
-use Rattle.slots_run.proofs.Looking.{Looking, look_start, look_turn, look_end}
+use Rattle.slots_run.proofs.Looking.{look_start, look_turn, look_end}
 use Rattle.slots_run.proofs.lookup.look_up.Goals as goal
 
 pub loop-i-init : goal.loop-i-init

@@ -1,11 +1,6 @@
 -- The invariant: what is seen from slot i on, beside the answer so far, is what is seen of all.
 use Prim.Native.Nat.{◌-◌}
-use native.Mathlib.Omega.{arith}
-use mathlib.Core.Path.{ap, ◌∙◌}
-use Rattle.flow_table.specs.FlowTable.{entry}
-use Rattle.rows_step.specs.Inner.{seen}
-use borrow.Author.Rules.{rules}
-use Rattle.slots_run.proofs.Looking.{Looking, look_start, look_turn, look_end}
+use Rattle.slots_run.proofs.Looking.{Looking}
 use Rattle.slots_run.proofs.lookup.look_up.Given as goal
 
 abbrev pub invariant-loop-i : goal.invariant-loop-i

@@ -1,8 +1,8 @@
-use Prim.Native.Nat.{◌-◌, ◌<◌}
+use Prim.Native.Nat.{◌<◌}
 use native.Mathlib.Omega.{arith}
-use lib.ListN.{length, get_or}
+use lib.ListN.{get_or}
 use borrow.Author.Rules.{rules}
-use Rattle.slots_run.proofs.RunLaws.{Running, run_start, run_turn, run_end}
+use Rattle.slots_run.proofs.RunLaws.{run_start, run_turn, run_end}
 use Rattle.slots_run.proofs.running.run.Goals as goal
 
 pub loop-p-init : goal.loop-p-init

@@ -1,7 +1,6 @@
 -- One answer for each number.
 use mathlib.Core.Path.{refl}
 use native.Mathlib.Omega.{arith}
-use borrow.Author.Rules.{rules}
 use Rattle.slots_run.proofs.stepping.answer_of.Goals as goal
 
 -- One answer for each number.

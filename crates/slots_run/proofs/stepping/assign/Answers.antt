@@ -1,7 +1,6 @@
-use Prim.Native.Nat.{◌-◌}
 use native.Mathlib.Omega.{arith}
 use borrow.Author.Rules.{rules}
-use Rattle.slots_run.proofs.Assigning.{Assigning, assign_start, assign_turn, assign_end}
+use Rattle.slots_run.proofs.Assigning.{assign_start, assign_turn, assign_end}
 use Rattle.slots_run.proofs.stepping.assign.Goals as goal
 
 pub loop-i-init : goal.loop-i-init

@@ -1,8 +1,6 @@
 -- The invariant: the slots below i are written.
 use Prim.Native.Nat.{◌-◌}
-use native.Mathlib.Omega.{arith}
-use borrow.Author.Rules.{rules}
-use Rattle.slots_run.proofs.Assigning.{Assigning, assign_start, assign_turn, assign_end}
+use Rattle.slots_run.proofs.Assigning.{Assigning}
 use Rattle.slots_run.proofs.stepping.assign.Given as goal
 
 abbrev pub invariant-loop-i : goal.invariant-loop-i

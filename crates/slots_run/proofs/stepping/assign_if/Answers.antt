@@ -1,6 +1,5 @@
 -- Assigned: the slots that fit. Not assigned: none.
 use mathlib.Core.Path.{refl}
-use borrow.Author.Rules.{rules}
 use Rattle.slots_run.proofs.stepping.assign_if.Goals as goal
 
 -- Assigned: the slots that fit. Not assigned: none.

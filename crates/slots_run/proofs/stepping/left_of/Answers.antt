@@ -1,7 +1,6 @@
 -- Dropped: what the set has and the mask has not. Not dropped: the set.
 use mathlib.Core.Path.{sym}
 use Rattle.basics.proofs.Booleans.{and-true}
-use borrow.Author.Rules.{rules}
 use Rattle.slots_run.proofs.stepping.left_of.Goals as goal
 
 -- Dropped: what the set has and the mask has not. Not dropped: the set.

@@ -1,5 +1,4 @@
 -- The parts of an event make what it leaves and answers.
-use borrow.Author.Rules.{rules}
 use Rattle.slots_run.proofs.StepEnd.{coded, stepped}
 use Rattle.slots_run.proofs.stepping.step.Goals as goal
 

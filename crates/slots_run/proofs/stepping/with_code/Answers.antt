@@ -2,7 +2,6 @@
 use native.Mathlib.Omega.{arith}
 use mathlib.Core.Path.{refl}
 use lib.ListN.{length-set}
-use borrow.Author.Rules.{rules}
 use Rattle.slots_run.proofs.Members.{get_d_set}
 use Rattle.slots_run.proofs.stepping.with_code.Goals as goal
 

@@ -1,6 +1,5 @@
 -- Put in: the set with the slot. Not put in: the set.
 use mathlib.Core.Path.{refl}
-use borrow.Author.Rules.{rules}
 use Rattle.slots_run.proofs.stepping.with_slot.Goals as goal
 
 -- Put in: the set with the slot. Not put in: the set.

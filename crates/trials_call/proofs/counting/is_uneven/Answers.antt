@@ -1,4 +1,3 @@
-use borrow.Author.Rules.{rules}
 use native.Mathlib.Omega.{arith}
 use Rattle.order_trials.specs.Trials.{uneven}
 use Rattle.order_trials.proofs.Counting.{count_most}

@@ -1,4 +1,3 @@
-use borrow.Author.Rules.{rules}
 use borrow.Author.Tests.{eq-eqb, ne_eqb}
 use Rattle.order_trials.specs.Trials.{order_count}
 use Rattle.trials_call.proofs.counting.order_count.Goals as goal

@@ -1,4 +1,3 @@
-use borrow.Author.Rules.{rules}
 use Rattle.trials_call.proofs.OneOrder.{order_refused, order_ended}
 use Rattle.trials_call.proofs.trial.trial.Goals as goal
 

@@ -9,7 +9,6 @@ use Rattle.trace_events.proofs.TraceLaws.{length_events}
 use Rattle.basics.proofs.Arrays.{length_mapped}
 use Rattle.rows.specs.Rows.{rows_of}
 use Rattle.order_check.proofs.RecordedBytes.{recorded_prefix}
-use Rattle.slots_plan.specs.Inner.{Prepares}
 use Rattle.slots_plan.proofs.Prepared.{prepared}
 use Rattle.trials_call.proofs.Shared.{sound, from_rows}
 use Rattle.trials_call.proofs.trying.try_all.Goals as goal

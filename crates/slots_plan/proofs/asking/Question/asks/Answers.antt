@@ -3,7 +3,6 @@ use mathlib.Core.Bool.{◌&&◌}
 use lib.Dec.{eqb}
 use Rattle.basics.proofs.Arrays.{by_arm}
 use Rattle.slots_plan.specs.InnerAsking.{asks}
-use borrow.Author.Rules.{rules}
 use Rattle.slots_plan.proofs.asking.Question.asks.Goals as goal
 
 pub returns-in-Same : goal.returns-in-Same

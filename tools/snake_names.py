@@ -126,6 +126,8 @@ def main(words):
         for name, places in FELL_TOGETHER.items():
             if any(("/crates/" + p) in path for p in places.split()):
                 here[name] = name + "_lem"
+        if not path.endswith(".antt"):
+            here = {a: b for a, b in here.items() if re.search("[A-Z-]", a)}
         new = turned_text(path, old, here)
         if new != old:
             with open(path, "w", encoding="utf-8") as f:

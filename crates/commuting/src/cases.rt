@@ -22,7 +22,7 @@ pub fn outside(j: Footprint, k: Footprint) -> bool
 pub fn keys_differ(j: Footprint, k: Footprint) -> bool
     ensures { result ≡ keys_differ_by j k }
 {
-    !j.same_key_lem(k)
+    !j.same_key(k)
 }
 
 pub fn add_add(j: Footprint, k: Footprint) -> bool
@@ -31,7 +31,7 @@ pub fn add_add(j: Footprint, k: Footprint) -> bool
     if j.action == k.action {
         return true;
     }
-    !j.same_key_lem(k)
+    !j.same_key(k)
 }
 
 pub fn add_modify(j: Footprint, k: Footprint) -> bool
@@ -43,7 +43,7 @@ pub fn add_modify(j: Footprint, k: Footprint) -> bool
     if j.action != k.action {
         return false;
     }
-    j.same_key_lem(k)
+    j.same_key(k)
 }
 
 pub fn checked_other(j: Footprint, k: Footprint) -> bool
@@ -77,5 +77,5 @@ pub fn modify_modify(j: Footprint, k: Footprint) -> bool
         return false;
     }
     let apart = !m.within(n) & !n.within(m);
-    apart | j.same_key_lem(k)
+    apart | j.same_key(k)
 }

@@ -88,7 +88,7 @@ impl Footprint {
     }
 
     // The same priority and match.
-    pub fn same_key_lem(self, other: Footprint) -> bool
+    pub fn same_key(self, other: Footprint) -> bool
         ensures { result ≡ same_key_by self other }
     {
         (self.priority == other.priority) & self.bits.same(other.bits)

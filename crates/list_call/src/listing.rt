@@ -20,7 +20,7 @@ fn put_list(t: Trace, delay: u32, out: &mut [u8]) -> ListAnswer
     if out.len() < needed {
         return ListAnswer::Refused(Refusal::ListShort(needed));
     }
-    bytes::copy(&pairs[..needed], out);
+    out[..needed].copy_from_slice(&pairs[..needed]);
     ListAnswer::Counts(counts)
 }
 

@@ -117,7 +117,7 @@ pub fn put_block(out: &mut [u8], at: usize, text: &[u8]) -> usize
 {
     let end = at + text.len();
     if end <= out.len() {
-        bytes::copy(text, &mut out[at..]);
+        out[at..end].copy_from_slice(text);
         return end;
     }
     put_bytes(out, at, text)

@@ -1,0 +1,5 @@
+use borrow.Author.Rules.{rules}
+use Rattle.commuting.proofs.cases.apart.Goals as goal
+
+pub returns : goal.returns
+returns c = cc

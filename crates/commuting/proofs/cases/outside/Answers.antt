@@ -1,0 +1,5 @@
+use borrow.Author.Rules.{rules}
+use Rattle.commuting.proofs.cases.outside.Goals as goal
+
+pub returns : goal.returns
+returns c = cc

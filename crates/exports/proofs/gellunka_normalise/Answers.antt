@@ -1,0 +1,7 @@
+use mathlib.Core.Path.{ap, ◌∙◌}
+use Rattle.exports_values.specs.Values.{normal_as}
+use borrow.Author.Rules.{rules}
+use Rattle.exports.proofs.gellunka_normalise.Goals as goal
+
+pub returns : goal.returns
+returns c = (c.normal_as.ensures ∙ ap (normal_as _) c.normalise-answer.ensures.0, c.normalise-answer.ensures.1)

@@ -1,0 +1,7 @@
+use mathlib.Core.Path.{ap, ◌∙◌}
+use Rattle.exports_values.specs.Values.{replay_as}
+use borrow.Author.Rules.{rules}
+use Rattle.exports.proofs.gellunka_replay.Goals as goal
+
+pub returns : goal.returns
+returns c = (c.replay_as.ensures ∙ ap (replay_as _ _) c.replay-answer.ensures.0, (c.replay-answer.ensures.1.0, c.replay-answer.ensures.1.1))

@@ -1,0 +1,7 @@
+use mathlib.Core.Path.{ap, ◌∙◌}
+use Rattle.exports_values.specs.Values.{trials_as}
+use borrow.Author.Rules.{rules}
+use Rattle.exports.proofs.gellunka_try_orders.Goals as goal
+
+pub returns : goal.returns
+returns c = (c.trials_as.ensures ∙ ap (trials_as _ _) c.try_orders-answer.ensures.0, c.try_orders-answer.ensures.1)

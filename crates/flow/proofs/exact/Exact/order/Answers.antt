@@ -1,0 +1,5 @@
+use borrow.Author.Rules.{rules}
+use Rattle.flow.proofs.exact.Exact.order.Goals as goal
+
+pub returns : goal.returns
+returns c = rw (c.order_of.ensures, c.rank-2.ensures, c.rank.ensures)

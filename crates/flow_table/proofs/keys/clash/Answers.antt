@@ -1,0 +1,5 @@
+use borrow.Author.Rules.{rules}
+use Rattle.flow_table.proofs.keys.clash.Goals as goal
+
+pub returns : goal.returns
+returns c = cc

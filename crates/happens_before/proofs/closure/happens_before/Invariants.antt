@@ -1,0 +1,35 @@
+-- The outer invariant: the rows of the events below j are filled and their sides noted, `barred` tells whether one of them is a
+-- barrier, and `earliest` is no later than the `to` of any that a switch handles. The inner: the set holds what happens before j by a last step from below k; no step leads to j from before the search.
+use Prim.Native.Nat.{ℕ, ◌≤◌, ◌-◌}
+use native.Mathlib.Omega.{arith}
+use mathlib.Core.Path.{◌≡◌, refl, sym, ap, ◌∙◌}
+use lib.ListN.{length, length-set}
+use borrow.Author.Rules.{rules}
+use Rattle.bit_sets.specs.Inner.{member}
+use Rattle.bit_sets.proofs.Members.{member_none}
+use Rattle.trace_events.specs.Events.{events_of}
+use Rattle.basics.specs.Searches.{any_below}
+use Rattle.trace_events.proofs.TraceLaws.{length_events}
+use Rattle.basics.proofs.Arrays.{length_mapped, noted_more}
+use Rattle.basics.proofs.Booleans.{was, was_false}
+use Rattle.trace_events.specs.Inner.{no_side}
+use Rattle.happens_before.proofs.RowLaws.{Filled, joined, filled_at, filled_none, filled_more, filled_all}
+use Rattle.happens_before.proofs.SideNotes.{Noted, side_at, a_step, token_step_lem, no_step, passed_by}
+use Rattle.happens_before.proofs.SearchStart.{Barred, barred_more, Earliest, earliest_more, from_within, none_below}
+use Rattle.happens_before.proofs.Chains.{row_union}
+use Rattle.happens_before.specs.Causality.{through}
+use Rattle.happens_before.proofs.closure.happens_before.Given as goal
+
+abbrev pub invariant-loop-k : goal.invariant-loop-k
+invariant-loop-k l = (l.k ≤ l.j) × ((i : ℕ) → member l.set i ≡ any_below (through l.delay (events_of l.t) i l.j) l.k)
+
+abbrev pub decreases-loop-k : goal.decreases-loop-k
+decreases-loop-k l = l.j - l.k
+
+abbrev pub invariant-loop-j : goal.invariant-loop-j
+invariant-loop-j l =
+    (l.j ≤ l.n) × (length l.t.events ≡ 256) × (length l.rows ≡ 256) × Filled l.delay (events_of l.t) l.j l.rows × (length l.sides ≡ 256) × Noted l.t l.j l.sides × Barred l.t l.j l.barred
+    × Earliest l.t l.j l.earliest
+
+abbrev pub decreases-loop-j : goal.decreases-loop-j
+decreases-loop-j l = l.n - l.j

@@ -1,0 +1,9 @@
+use Rattle.list_call.proofs.ListLaws.{call_refused, call_accepted}
+use borrow.Author.Rules.{rules}
+use Rattle.list_call.proofs.listing.list_races.Goals as goal
+
+pub returns-in-Refused : goal.returns-in-Refused
+returns-in-Refused c = call_refused _ _ c.read_trace-read.result c.read_trace-read.ensures.answer _ _ c.in-Refused.is
+
+pub returns-in-Accepted : goal.returns-in-Accepted
+returns-in-Accepted c = call_accepted _ _ c.read_trace-read.result c.read_trace-read.ensures.answer _ c.in-Accepted.is c.put_list.ensures

@@ -1,0 +1,27 @@
+-- The list is made in a buffer of its own, so that nothing is written before its length is known.
+use native.Mathlib.Omega.{arith}
+use mathlib.Core.Path.{refl, sym}
+use lib.Seq.{length-take-le}
+use Rattle.list_pairs.proofs.Made.{list_fits}
+use Rattle.list_call.proofs.ListLaws.{list_short, list_done}
+use borrow.Author.Rules.{rules}
+use Rattle.list_call.proofs.listing.put_list.Goals as goal
+
+-- The list is made in a buffer of its own, so that nothing is written before its length is known.
+pub overflow_mul-needed : goal.overflow_mul-needed
+overflow_mul-needed c = omega (arith, c.list_of-counts.ensures.most)
+
+pub returns-then-out-needed : goal.returns-then-out-needed
+returns-then-out-needed c = list_short _ _ c.list_of-counts.result _ c.list_of-counts.ensures _ c.if-out-needed.true
+
+pub slice_bounds-pairs-end : goal.slice_bounds-pairs-end
+slice_bounds-pairs-end c = c.list_of-counts.ensures.within
+
+pub slice_bounds-copy_from_slice-end-3 : goal.slice_bounds-copy_from_slice-end-3
+slice_bounds-copy_from_slice-end-3 c = sym (length-take-le _ _ c.list_of-counts.ensures.within)
+
+pub copy_from_slice-requires : goal.copy_from_slice-requires
+copy_from_slice-requires c = list_fits _ _ c.list_of-counts.result _ c.list_of-counts.ensures _ (omega arith)
+
+pub returns : goal.returns
+returns c = list_done _ _ c.list_of-counts.result _ c.list_of-counts.ensures _ _ _ (omega arith) refl c.copy_from_slice.ensures.1

@@ -1,0 +1,41 @@
+-- The outer invariant: the counts and the list have the pairs whose lower event is below i. The inner: and those of i and the events below j.
+use Prim.Native.Nat.{ℕ, ◌+◌, ◌-◌, ◌*◌, ◌<◌, ◌≤◌}
+use native.Mathlib.Omega.{arith}
+use mathlib.Core.Path.{◌≡◌, refl, sym, ap, ap₂, ◌∙◌}
+use mathlib.Core.List.{List}
+use lib.ListN.{length}
+use lib.Seq.{sets, length-sets}
+use borrow.Author.Rules.{rules}
+use Rattle.trace_events.specs.Events.{events_of, event_at}
+use Rattle.trace_events.proofs.TraceLaws.{length_events}
+use Rattle.basics.proofs.Arrays.{length_mapped}
+use Rattle.list_pairs.proofs.Reading.{get_D_either}
+use Rattle.list_pairs.specs.Types.{TableUse}
+use Rattle.list_pairs.specs.List.{test, Pair, pair_bytes, of_kind}
+use Rattle.list_verdicts.specs.Kinds.{listed, Kind}
+use Rattle.list_verdicts.specs.Inner.{no_use, verdict_by}
+use Rattle.list_verdicts.proofs.Paths.{verdict_by_lem}
+use Rattle.list_pairs.specs.Inner.{count_of}
+use Rattle.list_pairs.proofs.PairLaws.{pairs_of, row_start, row_most, small_of, count_turn, bytes_turn, rows_below, below_most, below_count, below_bytes, all_rows, counted}
+use Rattle.list_pairs.proofs.pass.scan.Given as goal
+
+abbrev pub invariant-loop-j : goal.invariant-loop-j
+invariant-loop-j l =
+    (l.i < l.j)
+    × (l.j ≤ l.t.len)
+    × ((k : Kind) → count_of k l.sum ≡ count_of k l.initial.sum + length (pairs_of l.delay k (events_of l.t) l.i l.j))
+    × (l.list ≡ sets l.initial.list (2 * l.initial.sum.listed) (pair_bytes (pairs_of l.delay listed (events_of l.t) l.i l.j)))
+
+abbrev pub decreases-loop-j : goal.decreases-loop-j
+decreases-loop-j l = l.t.len - l.j
+
+abbrev pub invariant-loop-i : goal.invariant-loop-i
+invariant-loop-i l =
+    (l.i ≤ l.t.len)
+    × (length l.t.events ≡ 256)
+    × ((k : Kind) → count_of k l.sum ≡ length (rows_below l.delay k (events_of l.t) l.t.len l.i))
+    × (l.list ≡ sets l.initial.list 0 (pair_bytes (rows_below l.delay listed (events_of l.t) l.t.len l.i)))
+    × (length l.uses ≡ 256)
+
+abbrev pub decreases-loop-i : goal.decreases-loop-i
+decreases-loop-i l = l.t.len - l.i

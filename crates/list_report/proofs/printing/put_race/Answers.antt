@@ -1,0 +1,13 @@
+use native.Mathlib.Omega.{arith}
+use Rattle.text_numbers.proofs.Writing.{put_then, put_one}
+use Rattle.list_report.specs.Report.{race_line}
+use borrow.Author.Rules.{rules}
+use Rattle.list_report.proofs.printing.put_race.Goals as goal
+
+pub returns : goal.returns
+unfolding race_line
+returns c =
+    (
+      put_then (put_then c.put_key_number-a.ensures.0 c.put_key_number-b.ensures.0) (put_one _ 10 _ _ c.put_byte.ensures),
+      omega (arith, c.put_key_number-a.ensures.1, c.put_key_number-b.ensures.1),
+    )

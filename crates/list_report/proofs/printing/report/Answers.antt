@@ -1,0 +1,9 @@
+use Rattle.list_report.proofs.Printed.{accepted_put, refused_put}
+use borrow.Author.Rules.{rules}
+use Rattle.list_report.proofs.printing.report.Goals as goal
+
+pub returns-in-Refused : goal.returns-in-Refused
+returns-in-Refused c = refused_put _ _ c.read_trace-read.result c.read_trace-read.ensures.answer _ c.in-Refused.is c.refused.ensures
+
+pub returns-in-Accepted : goal.returns-in-Accepted
+returns-in-Accepted c = accepted_put _ _ c.read_trace-read.result c.read_trace-read.ensures.answer c.in-Accepted.is c.put_listing.ensures

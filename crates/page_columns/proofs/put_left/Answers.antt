@@ -1,0 +1,6 @@
+use Rattle.page_columns.proofs.Putting.{left_put}
+use borrow.Author.Rules.{rules}
+use Rattle.page_columns.proofs.put_left.Goals as goal
+
+pub returns : goal.returns
+returns c = left_put _ _ c.left_over-rest.ensures c.requires.1 c.requires.2 c.put_bytes-n.ensures c.put_blanks.ensures.0

@@ -1,0 +1,12 @@
+use Rattle.page_columns.specs.Columns.{left}
+use Rattle.trace_words.specs.Words.{switch_word_text}
+use Rattle.page_lines.specs.Types.{Origin, SwitchWord}
+use Rattle.page_lines.proofs.Putting.{arm_put}
+use borrow.Author.Rules.{rules}
+use Rattle.page_lines.proofs.put.put_packet.Goals as goal
+
+pub returns-in-Received : goal.returns-in-Received
+returns-in-Received c = arm_put (λ (g : Origin). left 5 (switch_word_text (SwitchWord.Packet g))) c.in-Received.is c.put_left.ensures
+
+pub returns-in-SentOut : goal.returns-in-SentOut
+returns-in-SentOut c = arm_put (λ (g : Origin). left 5 (switch_word_text (SwitchWord.Packet g))) c.in-SentOut.is c.put_left-in-SentOut.ensures

@@ -1,0 +1,6 @@
+use Rattle.page_lines.proofs.Made.{line_put}
+use borrow.Author.Rules.{rules}
+use Rattle.page_lines.proofs.put.put_pair_line.Goals as goal
+
+pub returns : goal.returns
+returns c = line_put c.args.l c.requires.1 c.made_line-line.ensures c.put_block.ensures

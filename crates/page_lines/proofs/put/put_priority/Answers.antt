@@ -1,0 +1,13 @@
+use native.Mathlib.Omega.{arith}
+use Rattle.page_columns.specs.Columns.{right}
+use Rattle.page_lines.specs.Types.{Priority}
+use Rattle.page_lines.specs.PairLines.{priority_text}
+use Rattle.page_lines.proofs.Putting.{arm_put}
+use borrow.Author.Rules.{rules}
+use Rattle.page_lines.proofs.put.put_priority.Goals as goal
+
+pub returns-in-Absent : goal.returns-in-Absent
+returns-in-Absent c = arm_put (λ (p : Priority). right 5 (priority_text p)) c.in-Absent.is c.put_right.ensures
+
+pub returns-in-Of : goal.returns-in-Of
+returns-in-Of c = arm_put (λ (p : Priority). right 5 (priority_text p)) c.in-Of.is (c.put_in_five.ensures.0, omega (arith, c.put_in_five.ensures.1))

@@ -1,0 +1,18 @@
+use Rattle.page_columns.specs.Columns.{left}
+use Rattle.trace_words.specs.Words.{switch_word_text}
+use Rattle.page_lines.specs.Types.{SwitchWord, Write}
+use Rattle.page_lines.proofs.Putting.{arm_put}
+use borrow.Author.Rules.{rules}
+use Rattle.page_lines.proofs.put.put_write.Goals as goal
+
+pub returns-in-Add : goal.returns-in-Add
+returns-in-Add c = arm_put (λ (w : Write). left 5 (switch_word_text (SwitchWord.Write w))) c.in-Add.is c.put_left.ensures
+
+pub returns-in-AddChecked : goal.returns-in-AddChecked
+returns-in-AddChecked c = arm_put (λ (w : Write). left 5 (switch_word_text (SwitchWord.Write w))) c.in-AddChecked.is c.put_left-in-AddChecked.ensures
+
+pub returns-in-ModifyStrict : goal.returns-in-ModifyStrict
+returns-in-ModifyStrict c = arm_put (λ (w : Write). left 5 (switch_word_text (SwitchWord.Write w))) c.in-ModifyStrict.is c.put_left-in-ModifyStrict.ensures
+
+pub returns-in-Modify : goal.returns-in-Modify
+returns-in-Modify c = arm_put (λ (w : Write). left 5 (switch_word_text (SwitchWord.Write w))) c.in-Modify.is c.put_left-in-Modify.ensures

@@ -1,0 +1,10 @@
+use Rattle.page_text.proofs.Putting.{line_then, last_line}
+use borrow.Author.Rules.{rules}
+use Rattle.page_text.proofs.counts.put_counts.Goals as goal
+
+pub returns : goal.returns
+returns c =
+    line_then _ _ c.put_count-n.ensures.0
+    (line_then _ _ c.put_count-n-2.ensures.0
+    (line_then _ _ c.put_count-n-3.ensures.0
+    (last_line _ c.put_count.ensures.0)))

@@ -1,0 +1,75 @@
+use Prim.Native.Nat.{ℕ, ◌+◌, ◌*◌, ◌-◌, ◌<◌, ◌≤◌}
+use native.Mathlib.Omega.{arith}
+use mathlib.Core.Path.{◌≡◌, refl}
+use mathlib.Core.List.{List, [], ◌++◌}
+use lib.ListN.{length, drop, get_or}
+use Rattle.basics.proofs.Arrays.{length_mapped}
+use Rattle.text_numbers.specs.Inner.{Put}
+use Rattle.text_numbers.proofs.Writing.{put_none, put_length}
+use Rattle.trace_events.specs.Events.{events_of, event_at}
+use Rattle.trace_line.specs.Written.{EventInRange}
+use Rattle.list_pairs.specs.List.{each_pair}
+use Rattle.list_pairs.proofs.EachPair.{pairs_turn, pairs_done}
+use Rattle.page_text.specs.Types.{Trace}
+use Rattle.page_text.specs.Inner.{line_of_pair, pairs_text}
+use Rattle.page_text.proofs.Turns.{line_range, line_made}
+use borrow.Author.Rules.{rules}
+use Rattle.page_text.proofs.pairs.put_pairs.Goals as goal
+
+-- The invariant: what was written and the lines of the rest are the whole.
+-- each byte of the list is an event of the trace, and these are in range
+abbrev Inside : Trace → List ℕ → Type 0
+Inside t list = (t.len ≤ 256) × (length t.events ≡ 256) × ((k : ℕ) → k < length list → get_or list k 0 < t.len) × ((i : ℕ) → EventInRange (event_at (events_of t) i))
+
+pub loop-i-init : goal.loop-i-init
+loop-i-init c = (omega arith, omega arith, c.requires.0.1, (c.requires.0.0, search (rules, length_mapped), c.requires.1.0, c.requires.1.1), ([], put_none 0 _, refl))
+
+pub overflow_cast-a : goal.overflow_cast-a
+overflow_cast-a c =
+    let low : get_or c.args.list.now c.loop-i.i 0 < 256 = omega (arith, c.loop-i.invariant.3.2 c.loop-i.i (omega arith), c.loop-i.invariant.3.0) in
+    omega (arith, low)
+
+pub offset_bounds-t-lower : goal.offset_bounds-t-lower
+offset_bounds-t-lower c =
+    let low : get_or c.args.list.now c.loop-i.i 0 < 256 = omega (arith, c.loop-i.invariant.3.2 c.loop-i.i (omega arith), c.loop-i.invariant.3.0) in
+    omega (arith, low)
+
+pub bounds-t-lower : goal.bounds-t-lower
+bounds-t-lower c =
+    let low : get_or c.args.list.now c.loop-i.i 0 < 256 = omega (arith, c.loop-i.invariant.3.2 c.loop-i.i (omega arith), c.loop-i.invariant.3.0) in
+    low
+
+pub overflow_cast-b : goal.overflow_cast-b
+overflow_cast-b c =
+    let high : get_or c.args.list.now (c.loop-i.i + 1) 0 < 256 = omega (arith, c.loop-i.invariant.3.2 (c.loop-i.i + 1) (omega arith), c.loop-i.invariant.3.0) in
+    omega (arith, high)
+
+pub offset_bounds-t-higher : goal.offset_bounds-t-higher
+offset_bounds-t-higher c =
+    let high : get_or c.args.list.now (c.loop-i.i + 1) 0 < 256 = omega (arith, c.loop-i.invariant.3.2 (c.loop-i.i + 1) (omega arith), c.loop-i.invariant.3.0) in
+    omega (arith, high)
+
+pub bounds-t-higher : goal.bounds-t-higher
+bounds-t-higher c =
+    let high : get_or c.args.list.now (c.loop-i.i + 1) 0 < 256 = omega (arith, c.loop-i.invariant.3.2 (c.loop-i.i + 1) (omega arith), c.loop-i.invariant.3.0) in
+    high
+
+pub put_pair_line-at-requires : goal.put_pair_line-at-requires
+put_pair_line-at-requires c =
+    (
+      omega arith,
+      line_range c.args.t2 c.args.list.now c.loop-i.i (c.loop-i.invariant.3.2 c.loop-i.i (omega arith)) (c.loop-i.invariant.3.2 (c.loop-i.i + 1) (omega arith)) c.pair_line-line.ensures c.loop-i.invariant.3.0 c.loop-i.invariant.3.3,
+    )
+
+pub loop-i-preserved : goal.loop-i-preserved
+loop-i-preserved c =
+    let made = line_made c.args.t2 c.args.list.now c.loop-i.i (c.loop-i.invariant.3.2 c.loop-i.i (omega arith)) (c.loop-i.invariant.3.2 (c.loop-i.i + 1) (omega arith)) c.pair_line-line.ensures c.put_pair_line-at.ensures.0 in
+    let t = pairs_turn (line_of_pair (events_of c.args.t2)) c.args.list.now c.args.out.now c.loop-i.i c.loop-i.invariant.4.1 c.loop-i.invariant.4.2 (omega arith) made in
+    (omega arith, omega (arith, c.put_pair_line-at.ensures.1), c.loop-i.invariant.2, c.loop-i.invariant.3, (_, t.0, t.1))
+
+pub shape_of-out : goal.shape_of-out
+shape_of-out c = put_length c.loop-i.invariant.4.1
+
+pub returns : goal.returns
+unfolding pairs_text
+returns c = (pairs_done (line_of_pair (events_of c.args.t2)) c.args.list.now c.args.out.now c.loop-i.i c.loop-i.invariant.4.1 c.loop-i.invariant.4.2 (omega arith), omega arith)

@@ -1,0 +1,26 @@
+-- The invariant: what was written and the lines of the rest are the whole.
+use Prim.Native.Nat.{ℕ, ◌+◌, ◌*◌, ◌-◌, ◌<◌, ◌≤◌}
+use native.Mathlib.Omega.{arith}
+use mathlib.Core.Path.{◌≡◌, refl}
+use mathlib.Core.List.{List, [], ◌++◌}
+use lib.ListN.{length, drop, get_or}
+use Rattle.basics.proofs.Arrays.{length_mapped}
+use Rattle.text_numbers.specs.Inner.{Put}
+use Rattle.text_numbers.proofs.Writing.{put_none, put_length}
+use Rattle.trace_events.specs.Events.{events_of, event_at}
+use Rattle.trace_line.specs.Written.{EventInRange}
+use Rattle.list_pairs.specs.List.{each_pair}
+use Rattle.list_pairs.proofs.EachPair.{pairs_turn, pairs_done}
+use Rattle.page_text.specs.Types.{Trace}
+use Rattle.page_text.specs.Inner.{line_of_pair, pairs_text}
+use Rattle.page_text.proofs.Turns.{line_range, line_made}
+use borrow.Author.Rules.{rules}
+use Rattle.page_text.proofs.pairs.put_pairs.Given as goal
+
+abbrev pub invariant-loop-i : goal.invariant-loop-i
+invariant-loop-i l =
+    (l.i ≤ length l.list) × (l.at ≤ 31 * l.i) × (length l.list ≤ 131072) × Inside l.t l.list
+    × ((w : List ℕ) × Put w 0 l.initial.out l.at l.out × (w ++ each_pair (line_of_pair (events_of l.t)) (drop l.i l.list) ≡ each_pair (line_of_pair (events_of l.t)) l.list))
+
+abbrev pub decreases-loop-i : goal.decreases-loop-i
+decreases-loop-i l = length l.list - l.i

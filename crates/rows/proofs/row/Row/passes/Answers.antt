@@ -1,0 +1,7 @@
+use Rattle.rows.specs.Rows.{on_switch}
+use borrow.Author.Rules.{rules}
+use Rattle.rows.proofs.row.Row.passes.Goals as goal
+
+pub returns : goal.returns
+unfolding on_switch
+returns c = rw c.passes.ensures

@@ -1,0 +1,16 @@
+-- The invariant: the first i bytes are put.
+use Prim.Native.Nat.{◌≤◌, ◌-◌, ◌+◌}
+use mathlib.Core.Path.{◌≡◌, refl, ◌∙◌}
+use native.Mathlib.Nat.{add-zero}
+use native.Mathlib.Omega.{arith}
+use borrow.Author.Rules.{rules}
+use lib.ListN.{length, take}
+use Rattle.text_numbers.specs.Inner.{Put}
+use Rattle.text_numbers.proofs.Writing.{put_none, put_more, put_all}
+use Rattle.text_numbers.proofs.put.put_bytes.Given as goal
+
+abbrev pub invariant-loop-i : goal.invariant-loop-i
+invariant-loop-i l = (l.i ≤ length l.src) × (length l.out ≡ length l.initial.out) × Put (take l.i l.src) l.at l.initial.out (l.at + l.i) l.out
+
+abbrev pub decreases-loop-i : goal.decreases-loop-i
+decreases-loop-i l = length l.src - l.i

@@ -1,0 +1,13 @@
+use borrow.Author.Rules.{rules}
+use Rattle.text_numbers.proofs.Writing.{put_then}
+use Rattle.text_fields.specs.Print.{print_fields, print_match}
+use Rattle.text_put_fields.proofs.put_match.Goals as goal
+
+pub returns : goal.returns
+unfolding print_match print_fields
+returns c =
+    put_then c.put_exact-a.ensures.0
+    (put_then c.put_exact-b.ensures.0
+    (put_then c.put_prefix-c.ensures.0
+    (put_then c.put_prefix-d.ensures.0
+    c.put_last.ensures)))

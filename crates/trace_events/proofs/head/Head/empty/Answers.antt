@@ -1,0 +1,5 @@
+use borrow.Author.Rules.{rules}
+use Rattle.trace_events.proofs.head.Head.empty.Goals as goal
+
+pub returns : goal.returns
+returns c = cc

@@ -1,0 +1,23 @@
+use mathlib.Core.Path.{refl}
+use borrow.Author.Rules.{rules}
+use Rattle.trace_operation.specs.Operations.{read_on}
+use Rattle.trace_operation.proofs.OperationLaws.{arm_reads}
+use Rattle.trace_operation.proofs.read.fields_at.Goals as goal
+
+pub returns-in-Barrier : goal.returns-in-Barrier
+returns-in-Barrier c = arm_reads _ _ _ _ c.in-Barrier.is refl
+
+pub returns-in-Message : goal.returns-in-Message
+returns-in-Message c = arm_reads _ _ _ _ c.in-Message.is refl
+
+pub returns-in-Packet : goal.returns-in-Packet
+returns-in-Packet c = arm_reads _ _ _ _ c.in-Packet.is c.lookup_at.ensures
+
+pub returns-in-Write : goal.returns-in-Write
+returns-in-Write c = arm_reads _ _ _ _ c.in-Write.is c.write_at.ensures
+
+pub returns-in-DeleteStrict : goal.returns-in-DeleteStrict
+returns-in-DeleteStrict c = arm_reads _ _ _ _ c.in-DeleteStrict.is c.delete_strict_at.ensures
+
+pub returns-in-Delete : goal.returns-in-Delete
+returns-in-Delete c = arm_reads _ _ _ _ c.in-Delete.is c.delete_at.ensures

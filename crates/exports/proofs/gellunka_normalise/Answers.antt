@@ -4,4 +4,4 @@ use borrow.Author.Rules.{rules}
 use Rattle.exports.proofs.gellunka_normalise.Goals as goal
 
 pub returns : goal.returns
-returns c = (c.normal_as.ensures ∙ ap (normal_as _) c.normalise-answer.ensures.0, c.normalise-answer.ensures.1)
+returns c = record { value = c.normal_as.ensures ∙ ap (normal_as _) c.normalise-answer.ensures.value; out_after = c.normalise-answer.ensures.out_after }

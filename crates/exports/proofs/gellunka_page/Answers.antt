@@ -4,4 +4,4 @@ use borrow.Author.Rules.{rules}
 use Rattle.exports.proofs.gellunka_page.Goals as goal
 
 pub returns : goal.returns
-returns c = (c.page_as.ensures ∙ ap (page_as _) c.page-answer.ensures.0, c.page-answer.ensures.1)
+returns c = record { value = c.page_as.ensures ∙ ap (page_as _) c.page-answer.ensures.value; out_after = c.page-answer.ensures.out_after }

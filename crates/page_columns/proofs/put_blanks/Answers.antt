@@ -18,4 +18,4 @@ pub shape_of-out : goal.shape_of-out
 shape_of-out c = c.loop-i.invariant.1
 
 pub returns : goal.returns
-returns c = blanks_all _ _ _ c.loop-i.invariant.2 (omega arith)
+returns c = record { put = (blanks_all _ _ _ c.loop-i.invariant.2 (omega arith)).0; value = (blanks_all _ _ _ c.loop-i.invariant.2 (omega arith)).1 }

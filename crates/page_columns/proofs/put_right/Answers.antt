@@ -3,4 +3,4 @@ use borrow.Author.Rules.{rules}
 use Rattle.page_columns.proofs.put_right.Goals as goal
 
 pub returns : goal.returns
-returns c = right_put _ _ c.left_over-rest.ensures c.requires.1 c.requires.2 c.put_blanks-n.ensures.0 c.put_bytes.ensures
+returns c = record { put = (right_put _ _ c.left_over-rest.ensures c.requires.1 c.requires.2 c.put_blanks-n.ensures.put c.put_bytes.ensures).0; upper_bound = (right_put _ _ c.left_over-rest.ensures c.requires.1 c.requires.2 c.put_blanks-n.ensures.put c.put_bytes.ensures).1 }

@@ -6,8 +6,4 @@ use Rattle.refusals_text.proofs.put_key_number.Goals as goal
 
 pub returns : goal.returns
 unfolding key_number
-returns c =
-    (
-      put_then c.put_bytes-n.ensures c.put_number.ensures,
-      omega (arith, c.put_bytes-n.ensures.after, c.put_number.ensures.after, c.requires, print_length c.args.v),
-    )
+returns c = record { put = put_then c.put_bytes-n.ensures c.put_number.ensures; upper_bound = omega (arith, c.put_bytes-n.ensures.after, c.put_number.ensures.after, c.requires, print_length c.args.v) }

@@ -5,10 +5,10 @@ use borrow.Author.Rules.{rules}
 use Rattle.refusals_text.proofs.refused.Goals as goal
 
 pub returns-in-Neither : goal.returns-in-Neither
-returns-in-Neither c = refused_arm _ _ _ _ _ c.returned-returned.ensures c.in-Neither.is refl (put_then c.put_refusal-n.ensures.0 (put_none _ _))
+returns-in-Neither c = refused_arm _ _ _ _ _ c.returned-returned.ensures c.in-Neither.is refl (put_then c.put_refusal-n.ensures.put (put_none _ _))
 
 pub returns-in-Trace : goal.returns-in-Trace
-returns-in-Trace c = refused_arm _ _ _ _ _ c.returned-returned.ensures c.in-Trace.is c.refused_line.ensures (put_then c.put_refusal-n.ensures.0 c.put_line.ensures)
+returns-in-Trace c = refused_arm _ _ _ _ _ c.returned-returned.ensures c.in-Trace.is c.refused_line.ensures (put_then c.put_refusal-n.ensures.put c.put_line.ensures)
 
 pub returns-in-Tables : goal.returns-in-Tables
-returns-in-Tables c = refused_arm _ _ _ _ _ c.returned-returned.ensures c.in-Tables.is c.refused_line-in-Tables.ensures (put_then c.put_refusal-n.ensures.0 c.put_line-in-Tables.ensures)
+returns-in-Tables c = refused_arm _ _ _ _ _ c.returned-returned.ensures c.in-Tables.is c.refused_line-in-Tables.ensures (put_then c.put_refusal-n.ensures.put c.put_line-in-Tables.ensures)

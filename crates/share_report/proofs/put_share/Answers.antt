@@ -9,9 +9,6 @@ use Rattle.share_report.proofs.put_share.Goals as goal
 pub returns : goal.returns
 unfolding share_line
 returns c =
-    (
-      put_then
-          (put_then (put_then c.put_key_number-q.ensures.0 c.put_key_number-r.ensures.0) c.put_key_number-d.ensures.0)
-          (put_one _ 10 _ _ c.put_byte.ensures),
-      omega (arith, c.put_key_number-d.ensures.1, c.put_key_number-r.ensures.1, c.put_key_number-q.ensures.1),
-    )
+    record { put = put_then
+          (put_then (put_then c.put_key_number-q.ensures.put c.put_key_number-r.ensures.put) c.put_key_number-d.ensures.put)
+          (put_one _ 10 _ _ c.put_byte.ensures); upper_bound = omega (arith, c.put_key_number-d.ensures.upper_bound, c.put_key_number-r.ensures.upper_bound, c.put_key_number-q.ensures.upper_bound) }

@@ -5,4 +5,4 @@ use Rattle.text_put_fields.proofs.put_last.Goals as goal
 
 pub returns : goal.returns
 unfolding print_last
-returns c = put_then c.put_exact-a.ensures.0 (put_then c.put_exact-b.ensures.0 c.put_exact.ensures.0)
+returns c = put_then c.put_exact-a.ensures.put (put_then c.put_exact-b.ensures.put c.put_exact.ensures.put)

@@ -12,8 +12,4 @@ put_number-requires c = omega (arith, c.put_bytes-value.ensures.after, c.put_hex
 
 pub returns : goal.returns
 unfolding print_prefix
-returns c =
-    (
-      put_then c.put_bytes-value.ensures (put_then c.put_hex-slash.ensures (put_then c.put_bytes-length.ensures c.put_number.ensures)),
-      omega (arith, c.put_bytes-value.ensures.after, c.put_hex-slash.ensures.after, c.put_bytes-length.ensures.after, hex_length c.args.p.value, print_length c.args.p.length),
-    )
+returns c = record { put = put_then c.put_bytes-value.ensures (put_then c.put_hex-slash.ensures (put_then c.put_bytes-length.ensures c.put_number.ensures)); reach = omega (arith, c.put_bytes-value.ensures.after, c.put_hex-slash.ensures.after, c.put_bytes-length.ensures.after, hex_length c.args.p.value, print_length c.args.p.length) }

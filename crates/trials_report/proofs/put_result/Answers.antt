@@ -8,5 +8,5 @@ use Rattle.trials_report.proofs.put_result.Goals as goal
 pub returns : goal.returns
 unfolding result_line
 returns c =
-    let p = put_then (put_then c.put_key_number-a.ensures.0 c.put_key_number-b.ensures.0) (put_one _ 10 _ _ c.put_byte.ensures) in
+    let p = put_then (put_then c.put_key_number-a.ensures.put c.put_key_number-b.ensures.put) (put_one _ 10 _ _ c.put_byte.ensures) in
     (p, omega (arith, p.after, line_length_lem c.args.order c.args.result c.requires.1 c.ranges.res.fits))

@@ -25,4 +25,4 @@ pub shape_of-out : goal.shape_of-out
 shape_of-out c = put_length c.loop-i.invariant.4.1
 
 pub returns : goal.returns
-returns c = (lines_done _ _ _ c.loop-i.i c.loop-i.invariant.4.1 c.loop-i.invariant.4.2 (omega arith), omega arith)
+returns c = record { put = lines_done _ _ _ c.loop-i.i c.loop-i.invariant.4.1 c.loop-i.invariant.4.2 (omega arith); upper_bound = omega arith }

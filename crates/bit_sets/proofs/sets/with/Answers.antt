@@ -8,6 +8,6 @@ use Rattle.bit_sets.proofs.sets.with.Goals as goal
 
 pub returns : goal.returns
 returns c k =
-    let n : length c.args.t1 ≡ 8 = search rules in
+    let n : length c.args.set ≡ 8 = search rules in
     let l : c.args.j < 512 = search rules in
-    with_member c.args.t1 c.args.j (omega arith) k
+    with_member c.args.set c.args.j (omega arith) k

@@ -23,38 +23,38 @@ loop-j-init c = (omega arith, search (rules, length_mapped), refl, filled_none _
 
 pub loop-k-init : goal.loop-k-init
 loop-k-init c =
-    let fits : c.args.t1.len ≤ length c.args.t1.events = omega (arith, c.requires) in
+    let fits : c.args.t.len ≤ length c.args.t.events = omega (arith, c.requires) in
     (
       rw c.search_from-from.ensures (from_within _ _ _ _ _),
-      λ i. member_none 4 i ∙ none_below c.args.delay c.args.t1 fits c.loop-j.j (omega arith) c.side-later.ensures c.loop-j.invariant.6 c.loop-j.invariant.7 i ∙ ap (any_below (through c.args.delay (events_of c.args.t1) i _)) (sym c.search_from-from.ensures),
+      λ i. member_none 4 i ∙ none_below c.args.delay c.args.t fits c.loop-j.j (omega arith) c.side-later.ensures c.loop-j.invariant.6 c.loop-j.invariant.7 i ∙ ap (any_below (through c.args.delay (events_of c.args.t) i _)) (sym c.search_from-from.ensures),
     )
 
 pub loop-k-preserved-then-steps_to : goal.loop-k-preserved-then-steps_to
 loop-k-preserved-then-steps_to c =
-    let fits : c.args.t1.len ≤ length c.args.t1.events = omega (arith, c.requires) in
-    let is = a_step c.args.delay c.args.t1 fits c.loop-j.sides c.loop-j.j c.loop-k.k c.loop-j.invariant.5 (omega arith) (omega arith) c.side-later.ensures (was c.steps_to.ensures c.if-steps_to.true) in (
+    let fits : c.args.t.len ≤ length c.args.t.events = omega (arith, c.requires) in
+    let is = a_step c.args.delay c.args.t fits c.loop-j.sides c.loop-j.j c.loop-k.k c.loop-j.invariant.5 (omega arith) (omega arith) c.side-later.ensures (was c.steps_to.ensures c.if-steps_to.true) in (
       omega arith,
-      λ i. joined c.args.delay (events_of c.args.t1) i _ c.loop-k.k (c.join_if-next.ensures i) (c.loop-k.invariant.1 i) (sym is) (filled_at c.args.delay (events_of c.args.t1) _ _ c.loop-j.invariant.3 i c.loop-k.k (omega arith)),
+      λ i. joined c.args.delay (events_of c.args.t) i _ c.loop-k.k (c.join_if-next.ensures i) (c.loop-k.invariant.1 i) (sym is) (filled_at c.args.delay (events_of c.args.t) _ _ c.loop-j.invariant.3 i c.loop-k.k (omega arith)),
     )
 
 pub loop-k-preserved-then-not-may_pass_to : goal.loop-k-preserved-then-not-may_pass_to
 loop-k-preserved-then-not-may_pass_to c =
-    let fits : c.args.t1.len ≤ length c.args.t1.events = omega (arith, c.requires) in
-    let none = no_step c.args.delay c.args.t1 fits c.loop-j.sides c.loop-j.j c.loop-k.k c.loop-j.invariant.5 (omega arith) (omega arith) c.side-later.ensures
+    let fits : c.args.t.len ≤ length c.args.t.events = omega (arith, c.requires) in
+    let none = no_step c.args.delay c.args.t fits c.loop-j.sides c.loop-j.j c.loop-k.k c.loop-j.invariant.5 (omega arith) (omega arith) c.side-later.ensures
     (was c.steps_to.ensures c.if-steps_to.false) (was_false c.may_pass_to.ensures c.if-not-may_pass_to.true-raw) in (
       omega arith,
-      λ i. passed_by c.args.delay (events_of c.args.t1) i _ c.loop-k.k (c.loop-k.invariant.1 i) none,
+      λ i. passed_by c.args.delay (events_of c.args.t) i _ c.loop-k.k (c.loop-k.invariant.1 i) none,
     )
 
 pub loop-k-preserved : goal.loop-k-preserved
 loop-k-preserved c =
-    let fits : c.args.t1.len ≤ length c.args.t1.events = omega (arith, c.requires) in
-    let by_token = token_step_lem c.args.delay c.args.t1 fits c.loop-j.sides c.loop-j.j c.loop-k.k c.loop-j.invariant.5 (omega arith) (omega arith) c.side-later.ensures
+    let fits : c.args.t.len ≤ length c.args.t.events = omega (arith, c.requires) in
+    let by_token = token_step_lem c.args.delay c.args.t fits c.loop-j.sides c.loop-j.j c.loop-k.k c.loop-j.invariant.5 (omega arith) (omega arith) c.side-later.ensures
     (was c.steps_to.ensures c.if-steps_to.false) in (
       omega arith,
-      λ i. joined c.args.delay (events_of c.args.t1) i _ c.loop-k.k (c.join_if-next-in-loop-k.ensures i) (c.loop-k.invariant.1 i)
+      λ i. joined c.args.delay (events_of c.args.t) i _ c.loop-k.k (c.join_if-next-in-loop-k.ensures i) (c.loop-k.invariant.1 i)
           (c.passes_to-passes.ensures ∙ sym by_token)
-          (filled_at c.args.delay (events_of c.args.t1) _ _ c.loop-j.invariant.3 i c.loop-k.k (omega arith)),
+          (filled_at c.args.delay (events_of c.args.t) _ _ c.loop-j.invariant.3 i c.loop-k.k (omega arith)),
     )
 
 pub loop-j-preserved : goal.loop-j-preserved
@@ -66,12 +66,12 @@ loop-j-preserved c =
       filled_more _ _ c.loop-j.rows c.loop-j.j c.loop-k.set (omega arith) c.loop-j.invariant.3
           (λ i. c.loop-k.invariant.1 i ∙ ap (any_below (through _ _ i _)) e ∙ sym (row_union _ _ i _)),
       simp length-set c.loop-j.invariant.4,
-      noted_more (side_at c.args.t1) no_side c.loop-j.sides c.loop-j.j (omega arith) c.side-later.ensures c.loop-j.invariant.5,
-      barred_more c.args.t1 c.loop-j.j c.loop-j.invariant.6 c.side-later.ensures,
-      earliest_more c.args.t1 c.loop-j.j c.loop-j.invariant.7 c.side-later.ensures c.earlier_of-earliest.ensures.0 c.earlier_of-earliest.ensures.1,
+      noted_more (side_at c.args.t) no_side c.loop-j.sides c.loop-j.j (omega arith) c.side-later.ensures c.loop-j.invariant.5,
+      barred_more c.args.t c.loop-j.j c.loop-j.invariant.6 c.side-later.ensures,
+      earliest_more c.args.t c.loop-j.j c.loop-j.invariant.7 c.side-later.ensures c.earlier_of-earliest.ensures.0 c.earlier_of-earliest.ensures.1,
     )
 
 pub returns : goal.returns
 returns c =
-    let fits : c.args.t1.len ≤ length c.args.t1.events = omega (arith, c.requires) in
-    filled_all c.args.delay (events_of c.args.t1) c.loop-j.rows c.loop-j.j (omega (arith, length_events c.args.t1 fits)) c.loop-j.invariant.3
+    let fits : c.args.t.len ≤ length c.args.t.events = omega (arith, c.requires) in
+    filled_all c.args.delay (events_of c.args.t) c.loop-j.rows c.loop-j.j (omega (arith, length_events c.args.t fits)) c.loop-j.invariant.3

@@ -7,5 +7,5 @@ use Rattle.happens_before.proofs.sets.with.Goals as goal
 
 pub returns : goal.returns
 returns c k =
-    let n : length c.args.t1 ≡ 4 = search rules in
-    with_member c.args.t1 c.args.j (omega arith) k
+    let n : length c.args.row ≡ 4 = search rules in
+    with_member c.args.row c.args.j (omega arith) k

@@ -3,4 +3,4 @@ use borrow.Author.Rules.{rules}
 use Rattle.list_pairs.proofs.listing.list_of.Goals as goal
 
 pub returns : goal.returns
-returns c = made _ _ (events_most c.args.t c.requires.0) c.scan.result c.scan.ensures.0 _ _ c.requires.1 c.scan.ensures.1
+returns c = made _ _ (events_most c.args.t c.requires.0) c.scan.result c.scan.ensures.value _ _ c.requires.1 c.scan.ensures.list_after

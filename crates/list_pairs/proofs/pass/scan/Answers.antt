@@ -48,7 +48,7 @@ put_listed-requires c =
     omega (
       arith,
       most PLACE<At-loop2> listed,
-      c.requires.0,
+      c.requires.len_bound,
       ap length c.loop-j.invariant.3,
       length-sets c.loop-i.list (2 * c.loop-i.sum.listed) (pair_bytes (pairs_of c.args.delay listed es c.loop-i.i c.loop-j.j)),
       ap length c.loop-i.invariant.3,
@@ -56,18 +56,18 @@ put_listed-requires c =
     )
 
 pub counted-next-requires : goal.counted-next-requires
-counted-next-requires c = small_of c.loop-j.sum (λ k. omega (arith, most PLACE<At-loop2> k, c.requires.0))
+counted-next-requires c = small_of c.loop-j.sum (λ k. omega (arith, most PLACE<At-loop2> k, c.requires.len_bound))
 
 pub loop-j-preserved : goal.loop-j-preserved
 loop-j-preserved c =
     let es = events_of c.args.t in
-    let before-is = c.is_before-ordered.ensures ∙ c.requires.1 c.loop-i.i c.loop-j.j in
+    let before-is = c.is_before-ordered.ensures ∙ c.requires.happens_before c.loop-i.i c.loop-j.j in
     let verdict =
     c.verdict_of-v.ensures
     ∙ ap₂ (λ (x y : TableUse). verdict_by x y c.is_before-ordered.result)
-    (get_D_either c.all_uses-uses.result c.loop-i.i _ no_use (omega (arith, c.all_uses-uses.ensures.0, c.requires.0)) ∙ c.all_uses-uses.ensures.1 c.loop-i.i (omega (arith, c.requires.0)))
-    (get_D_either c.all_uses-uses.result c.loop-j.j _ no_use (omega (arith, c.all_uses-uses.ensures.0, c.requires.0)) ∙ c.all_uses-uses.ensures.1 c.loop-j.j (omega arith))
-    ∙ verdict_by_lem (event_at es c.loop-i.i).operation (event_at es c.loop-j.j).operation (c.all_uses-uses.ensures.2 c.loop-i.i (omega (arith, c.requires.0))) (c.all_uses-uses.ensures.2 c.loop-j.j (omega arith)) c.is_before-ordered.result in (
+    (get_D_either c.all_uses-uses.result c.loop-i.i _ no_use (omega (arith, c.all_uses-uses.ensures.0, c.requires.len_bound)) ∙ c.all_uses-uses.ensures.1 c.loop-i.i (omega (arith, c.requires.len_bound)))
+    (get_D_either c.all_uses-uses.result c.loop-j.j _ no_use (omega (arith, c.all_uses-uses.ensures.0, c.requires.len_bound)) ∙ c.all_uses-uses.ensures.1 c.loop-j.j (omega arith))
+    ∙ verdict_by_lem (event_at es c.loop-i.i).operation (event_at es c.loop-j.j).operation (c.all_uses-uses.ensures.2 c.loop-i.i (omega (arith, c.requires.len_bound))) (c.all_uses-uses.ensures.2 c.loop-j.j (omega arith)) c.is_before-ordered.result in (
       omega arith,
       omega arith,
       λ k. count_turn _ es c.loop-i.i c.loop-j.j c.loop-j.invariant.0 before-is verdict k _ _ _ (c.counted-next.ensures k) (c.loop-j.invariant.2 k),
@@ -91,7 +91,7 @@ shape_of-list c = ap length c.loop-i.invariant.3 ∙ simp length-sets
 
 pub returns : goal.returns
 returns c =
-    let size : length (events_of c.args.t) ≡ c.args.t.len = length_events c.args.t (omega (arith, c.requires.0)) in
+    let size : length (events_of c.args.t) ≡ c.args.t.len = length_events c.args.t (omega (arith, c.requires.len_bound)) in
     let e : c.loop-i.i ≡ c.args.t.len = omega arith in (
       counted c.args.delay (events_of c.args.t) c.loop-i.sum
           (λ k. c.loop-i.invariant.2 k ∙ ap (λ (m : ℕ). length (rows_below c.args.delay k (events_of c.args.t) c.args.t.len m)) e ∙ ap length (all_rows c.args.delay k (events_of c.args.t) c.args.t.len) ∙ ap (λ (m : ℕ). length (of_kind c.args.delay k (events_of c.args.t) m)) (sym size)),

@@ -17,13 +17,13 @@ loop-k-init c = (omega arith, search (rules, length_mapped), refl, λ i l. absur
 
 pub loop-k-preserved : goal.loop-k-preserved
 loop-k-preserved c =
-    let here = sym (event_at_lem c.args.t1 c.loop-k.k (omega arith)) in (
+    let here = sym (event_at_lem c.args.t c.loop-k.k (omega arith)) in (
       omega arith,
       c.loop-k.invariant.1,
       simp length-set c.loop-k.invariant.2,
-      noted_more (λ i. table_use (event_at (events_of c.args.t1) i).operation) no_use c.loop-k.all c.loop-k.k (omega arith)
+      noted_more (λ i. table_use (event_at (events_of c.args.t) i).operation) no_use c.loop-k.all c.loop-k.k (omega arith)
           (c.use_of.ensures.0 ∙ ap (λ (e : Event). table_use e.operation) here) c.loop-k.invariant.3,
-      holds_more (λ i. NarrowEffect (effect_of (event_at (events_of c.args.t1) i).operation)) c.loop-k.k (subst (λ (e : Event). NarrowEffect (effect_of e.operation)) here c.use_of.ensures.1) c.loop-k.invariant.4,
+      holds_more (λ i. NarrowEffect (effect_of (event_at (events_of c.args.t) i).operation)) c.loop-k.k (subst (λ (e : Event). NarrowEffect (effect_of e.operation)) here c.use_of.ensures.1) c.loop-k.invariant.4,
     )
 
 pub returns : goal.returns

@@ -10,10 +10,10 @@ pub overflow_add-result : goal.overflow_add-result
 overflow_add-result c =
     omega (
       arith,
-      c.put_key_number-l.ensures.1,
-      c.put_key_number-m.ensures.1,
-      c.put_key_number-o.ensures.1,
-      c.put_key_number-p.ensures.1,
+      c.put_key_number-l.ensures.upper_bound,
+      c.put_key_number-m.ensures.upper_bound,
+      c.put_key_number-o.ensures.upper_bound,
+      c.put_key_number-p.ensures.upper_bound,
       c.requires,
     )
 
@@ -22,6 +22,6 @@ unfolding counts_line
 returns c =
     put_then
     (put_then
-    (put_then (put_then c.put_key_number-p.ensures.0 c.put_key_number-o.ensures.0) c.put_key_number-m.ensures.0)
-    c.put_key_number-l.ensures.0)
+    (put_then (put_then c.put_key_number-p.ensures.put c.put_key_number-o.ensures.put) c.put_key_number-m.ensures.put)
+    c.put_key_number-l.ensures.put)
     (put_one _ 10 _ _ c.put_byte.ensures)

@@ -19,4 +19,4 @@ pub put_races-at-requires : goal.put_races-at-requires
 put_races-at-requires c = list_fits _ _ c.list_of-counts.result _ c.list_of-counts.ensures _ (omega (arith, c.list_of-counts.ensures.most))
 
 pub returns : goal.returns
-returns c = list_put _ _ c.list_of-counts.result _ c.list_of-counts.ensures (put_then c.put_races-at.ensures.0 c.put_counts.ensures)
+returns c = list_put _ _ c.list_of-counts.result _ c.list_of-counts.ensures (put_then c.put_races-at.ensures.put c.put_counts.ensures)

@@ -21,4 +21,4 @@ pub shape_of-out : goal.shape_of-out
 shape_of-out c = put_length c.loop-i.invariant.3.1
 
 pub returns : goal.returns
-returns c = (pairs_done race_line _ _ c.loop-i.i c.loop-i.invariant.3.1 c.loop-i.invariant.3.2 (omega arith), omega arith)
+returns c = record { put = pairs_done race_line _ _ c.loop-i.i c.loop-i.invariant.3.1 c.loop-i.invariant.3.2 (omega arith); upper_bound = omega arith }

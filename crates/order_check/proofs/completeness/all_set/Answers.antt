@@ -12,7 +12,7 @@ pub loop-i-init : goal.loop-i-init
 loop-i-init c = (omega arith, refl)
 
 pub loop-i-preserved : goal.loop-i-preserved
-loop-i-preserved c = (omega arith, all_more (λ k. get_or c.args.t1 k false) c.loop-i.i c.loop-i.invariant.1 refl)
+loop-i-preserved c = (omega arith, all_more (λ k. get_or c.args.flags k false) c.loop-i.i c.loop-i.invariant.1 refl)
 
 pub returns : goal.returns
 returns c = let e : c.loop-i.i ≡ c.args.n = omega arith in c.loop-i.invariant.1 ∙ ap (all_below _) e

@@ -13,7 +13,7 @@ use Rattle.order_check.proofs.SearchLaws as walk
 use Rattle.order_check.proofs.search.first_early.Goals as goal
 
 pub search-init : goal.search-init
-search-init c = (search rules, refl, refl, walk.none_placed _ c.requires.0.0)
+search-init c = (search rules, refl, refl, walk.none_placed _ c.requires.order_of.0)
 
 pub overflow_cast-earlier : goal.overflow_cast-earlier
 overflow_cast-earlier c =
@@ -37,12 +37,12 @@ loop-w-preserved c = (search rules, c.loop-w.invariant.1, walk.word_passed _ _ c
 
 pub search-preserved : goal.search-preserved
 search-preserved c =
-    let now_placed : PlacedBefore c.args.order.now (c.search.p + 1) c.with-next.result =  walk.one_placed _ c.requires.0.0 c.search.placed c.with-next.result c.search.p c.search-test.true c.with-next.ensures c.search.invariant.3 in
+    let now_placed : PlacedBefore c.args.order.now (c.search.p + 1) c.with-next.result =  walk.one_placed _ c.requires.order_of.0 c.search.placed c.with-next.result c.search.p c.search-test.true c.with-next.ensures c.search.invariant.3 in
     let last : c.loop-w.w ≡ 4 = search rules in (
       search rules,
       c.loop-w.invariant.1 ∙ c.search.invariant.1,
       sym (walk.in_time_lem _ _ c.search.p c.search-test.true
-          (walk.none_missing _ _ c.requires.1 _ _ _ (now_placed) c.requires.0.1 (rw last at c.loop-w.invariant.2))) ∙ c.search.invariant.2,
+          (walk.none_missing _ _ c.requires.by_index _ _ _ (now_placed) c.requires.order_of.1 (rw last at c.loop-w.invariant.2))) ∙ c.search.invariant.2,
       now_placed,
     )
 
@@ -51,6 +51,6 @@ returns-after-search c = ap as_position c.search.invariant.1 ∙ sym (sym c.sear
 
 pub returns-then-lacks : goal.returns-then-lacks
 returns-then-lacks c =
-    let now_placed : PlacedBefore c.args.order.now (c.search.p + 1) c.with-next.result =  walk.one_placed _ c.requires.0.0 c.search.placed c.with-next.result c.search.p c.search-test.true c.with-next.ensures c.search.invariant.3 in
+    let now_placed : PlacedBefore c.args.order.now (c.search.p + 1) c.with-next.result =  walk.one_placed _ c.requires.order_of.0 c.search.placed c.with-next.result c.search.p c.search-test.true c.with-next.ensures c.search.invariant.3 in
     sym (sym c.search.invariant.2 ∙ walk.early_here _ _ c.search.p c.search-test.true
-    (walk.word_found _ _ c.requires.1 _ _ _ (now_placed) c.loop-w.w (was c.lacks.ensures c.if-lacks.true)))
+    (walk.word_found _ _ c.requires.by_index _ _ _ (now_placed) c.loop-w.w (was c.lacks.ensures c.if-lacks.true)))

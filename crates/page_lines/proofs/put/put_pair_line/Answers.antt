@@ -3,4 +3,4 @@ use borrow.Author.Rules.{rules}
 use Rattle.page_lines.proofs.put.put_pair_line.Goals as goal
 
 pub returns : goal.returns
-returns c = line_put c.args.l c.requires.1 c.made_line-line.ensures c.put_block.ensures
+returns c = record { put = (line_put c.args.l c.requires.1 c.made_line-line.ensures c.put_block.ensures).0; value = (line_put c.args.l c.requires.1 c.made_line-line.ensures c.put_block.ensures).1 }

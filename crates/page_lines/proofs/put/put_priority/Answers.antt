@@ -7,7 +7,7 @@ use borrow.Author.Rules.{rules}
 use Rattle.page_lines.proofs.put.put_priority.Goals as goal
 
 pub returns-in-Absent : goal.returns-in-Absent
-returns-in-Absent c = arm_put (λ (p : Priority). right 5 (priority_text p)) c.in-Absent.is c.put_right.ensures
+returns-in-Absent c = record { put = (arm_put (λ (p : Priority). right 5 (priority_text p)) c.in-Absent.is c.put_right.ensures).0; upper_bound = (arm_put (λ (p : Priority). right 5 (priority_text p)) c.in-Absent.is c.put_right.ensures).1 }
 
 pub returns-in-Of : goal.returns-in-Of
-returns-in-Of c = arm_put (λ (p : Priority). right 5 (priority_text p)) c.in-Of.is (c.put_in_five.ensures.0, omega (arith, c.put_in_five.ensures.1))
+returns-in-Of c = record { put = (arm_put (λ (p : Priority). right 5 (priority_text p)) c.in-Of.is (c.put_in_five.ensures.0, omega (arith, c.put_in_five.ensures.1))).0; upper_bound = (arm_put (λ (p : Priority). right 5 (priority_text p)) c.in-Of.is (c.put_in_five.ensures.0, omega (arith, c.put_in_five.ensures.1))).1 }

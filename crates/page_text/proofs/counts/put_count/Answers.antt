@@ -6,8 +6,4 @@ use borrow.Author.Rules.{rules}
 use Rattle.page_text.proofs.counts.put_count.Goals as goal
 
 pub returns : goal.returns
-returns c =
-    (
-      put_then (count_put _ _ refl c.put_bytes-n.ensures c.put_number_right-m.ensures.0) (put_one _ 10 _ _ c.put_byte.ensures),
-      omega (arith, c.put_bytes-n.ensures.after, c.put_number_right-m.ensures.1, c.requires),
-    )
+returns c = record { put = put_then (count_put _ _ refl c.put_bytes-n.ensures c.put_number_right-m.ensures.put) (put_one _ 10 _ _ c.put_byte.ensures); upper_bound = omega (arith, c.put_bytes-n.ensures.after, c.put_number_right-m.ensures.upper_bound, c.requires) }

@@ -4,7 +4,7 @@ use Rattle.page_text.proofs.counts.put_counts.Goals as goal
 
 pub returns : goal.returns
 returns c =
-    line_then _ _ c.put_count-n.ensures.0
-    (line_then _ _ c.put_count-n-2.ensures.0
-    (line_then _ _ c.put_count-n-3.ensures.0
-    (last_line _ c.put_count.ensures.0)))
+    line_then _ _ c.put_count-n.ensures.put
+    (line_then _ _ c.put_count-n-2.ensures.put
+    (line_then _ _ c.put_count-n-3.ensures.put
+    (last_line _ c.put_count.ensures.put)))

@@ -72,4 +72,4 @@ shape_of-out c = put_length c.loop-i.invariant.4.1
 
 pub returns : goal.returns
 unfolding pairs_text
-returns c = (pairs_done (line_of_pair (events_of c.args.t2)) c.args.list.now c.args.out.now c.loop-i.i c.loop-i.invariant.4.1 c.loop-i.invariant.4.2 (omega arith), omega arith)
+returns c = record { put = pairs_done (line_of_pair (events_of c.args.t2)) c.args.list.now c.args.out.now c.loop-i.i c.loop-i.invariant.4.1 c.loop-i.invariant.4.2 (omega arith); upper_bound = omega arith }

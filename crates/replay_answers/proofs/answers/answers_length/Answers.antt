@@ -14,12 +14,12 @@ unfolding answers_text
 loop-i-init c = (omega arith, search (rules, length_mapped), refl, refl)
 
 pub put_answer-at-requires : goal.put_answer-at-requires
-put_answer-at-requires c = omega (arith, text_length (kept_at c.args.t1) c.loop-i.i)
+put_answer-at-requires c = omega (arith, text_length (kept_at c.args.answers) c.loop-i.i)
 
 pub loop-i-preserved : goal.loop-i-preserved
-loop-i-preserved c = (omega arith, c.loop-i.invariant.1, c.put_answer-at.auto.out ∙ c.loop-i.invariant.2, counted (kept_at c.args.t1) c.loop-i.i c.loop-i.at c.put_answer-at.result refl c.loop-i.invariant.3 c.put_answer-at.ensures.after)
+loop-i-preserved c = (omega arith, c.loop-i.invariant.1, c.put_answer-at.auto.out ∙ c.loop-i.invariant.2, counted (kept_at c.args.answers) c.loop-i.i c.loop-i.at c.put_answer-at.result refl c.loop-i.invariant.3 c.put_answer-at.ensures.after)
 
 pub returns : goal.returns
 returns c =
     let e : c.loop-i.i ≡ c.args.n = omega arith in
-    c.loop-i.invariant.3 ∙ ap (λ k. length (answers_text (kept_at c.args.t1) k)) e
+    c.loop-i.invariant.3 ∙ ap (λ k. length (answers_text (kept_at c.args.answers) k)) e

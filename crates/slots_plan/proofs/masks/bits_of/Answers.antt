@@ -20,15 +20,15 @@ loop-i-preserved c =
       c.loop-i.invariant.1,
       c.loop-i.invariant.2,
       simp length-set c.loop-i.invariant.3,
-      stored_more (λ k b. (d : Row) → BitsFor (get_or c.args.t1.rows k d) b) no_bits c.loop-i.all c.loop-i.i (omega arith)
-          (λ d. subst (λ x. BitsFor x c.of.result) (get_d_any c.args.t1.rows c.loop-i.i _ d (omega arith)) c.of.ensures) c.loop-i.invariant.4,
+      stored_more (λ k b. (d : Row) → BitsFor (get_or c.args.slots.rows k d) b) no_bits c.loop-i.all c.loop-i.i (omega arith)
+          (λ d. subst (λ x. BitsFor x c.of.result) (get_d_any c.args.slots.rows c.loop-i.i _ d (omega arith)) c.of.ensures) c.loop-i.invariant.4,
     )
 
 pub returns : goal.returns
 returns c =
-    let fits : c.args.t1.len ≤ length c.args.t1.rows = omega (arith, c.loop-i.invariant.1, c.loop-i.invariant.2) in (
+    let fits : c.args.slots.len ≤ length c.args.slots.rows = omega (arith, c.loop-i.invariant.1, c.loop-i.invariant.2) in (
       c.loop-i.invariant.3,
       λ i d h.
-          let m : i < c.args.t1.len = omega (arith, length-take-le c.args.t1.len c.args.t1.rows fits) in
-          subst (λ x. BitsFor x (get_or c.loop-i.all i no_bits)) (sym (get_or-take c.args.t1.len c.args.t1.rows i d m)) (c.loop-i.invariant.4 i (omega arith) d),
+          let m : i < c.args.slots.len = omega (arith, length-take-le c.args.slots.len c.args.slots.rows fits) in
+          subst (λ x. BitsFor x (get_or c.loop-i.all i no_bits)) (sym (get_or-take c.args.slots.len c.args.slots.rows i d m)) (c.loop-i.invariant.4 i (omega arith) d),
     )

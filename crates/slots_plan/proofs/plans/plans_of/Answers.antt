@@ -16,7 +16,7 @@ use Rattle.slots_plan.proofs.plans.plans_of.Goals as goal
 
 pub bounds-slots-0 : goal.bounds-slots-0
 bounds-slots-0 c =
-    let size : length c.args.t2.rows ≡ 512 = search (rules, length_mapped) in
+    let size : length c.args.slots.rows ≡ 512 = search (rules, length_mapped) in
     omega arith
 
 pub loop-e-init : goal.loop-e-init
@@ -45,16 +45,16 @@ plan_of-requires c = omega (arith, c.loop-search.invariant.within, c.loop-e.inva
 
 pub loop-e-preserved : goal.loop-e-preserved
 loop-e-preserved c =
-    let few : length (rows_of c.args.t2) ≤ 512 = omega (arith, length-take-le c.args.t2.len c.args.t2.rows (omega (arith, c.loop-e.invariant.1, c.loop-e.invariant.3)), c.loop-e.invariant.1) in
-    let is = work_here c.args.t1 c.loop-e.e c.operation_of-operation.ensures c.event_work-work.ensures in
-    let placed = put_place (events_of c.args.t1) c.loop-e.e _ c.args.t2.rows c.args.t2.len c.loop-search.search is c.put_row-row.ensures c.loop-search.invariant c.loop-search-test.false c.requires.2 c.loop-e-test.true in
-    let made = plan_here (rows_of c.args.t2) few (events_of c.args.t1) c.loop-e.e _ is c.plan_of.ensures.0 c.plan_of.ensures.1 c.plan_of.ensures.2 placed in (
+    let few : length (rows_of c.args.slots) ≤ 512 = omega (arith, length-take-le c.args.slots.len c.args.slots.rows (omega (arith, c.loop-e.invariant.1, c.loop-e.invariant.3)), c.loop-e.invariant.1) in
+    let is = work_here c.args.t c.loop-e.e c.operation_of-operation.ensures c.event_work-work.ensures in
+    let placed = put_place (events_of c.args.t) c.loop-e.e _ c.args.slots.rows c.args.slots.len c.loop-search.search is c.put_row-row.ensures c.loop-search.invariant c.loop-search-test.false c.requires.2 c.loop-e-test.true in
+    let made = plan_here (rows_of c.args.slots) few (events_of c.args.t) c.loop-e.e _ is c.plan_of.ensures.0 c.plan_of.ensures.1 c.plan_of.ensures.2 placed in (
       omega arith,
       c.loop-e.invariant.1,
       c.loop-e.invariant.2,
       c.loop-e.invariant.3,
       simp length-set c.loop-e.invariant.4,
-      stored_more (λ k p. PlanFor (rows_of c.args.t2) (work_at (events_of c.args.t1) k) p) [] c.loop-e.plans c.loop-e.e (omega (arith, c.loop-e.invariant.4, c.loop-e-test.true)) made c.loop-e.invariant.5,
+      stored_more (λ k p. PlanFor (rows_of c.args.slots) (work_at (events_of c.args.t) k) p) [] c.loop-e.plans c.loop-e.e (omega (arith, c.loop-e.invariant.4, c.loop-e-test.true)) made c.loop-e.invariant.5,
     )
 
 pub returns : goal.returns

@@ -19,10 +19,10 @@ loop-i-preserved c =
       c.loop-i.invariant.1,
       c.loop-i.invariant.2,
       simp length-set c.loop-i.invariant.3,
-      stored_more (λ k v. (d : Row) → v ≡ (get_or c.args.t1.rows k d).entry.key.priority) 0 c.loop-i.priorities c.loop-i.i (omega arith) (λ d. ap (λ x. x.entry.key.priority) (get_d_any c.args.t1.rows c.loop-i.i _ d (omega arith))) c.loop-i.invariant.4,
+      stored_more (λ k v. (d : Row) → v ≡ (get_or c.args.slots.rows k d).entry.key.priority) 0 c.loop-i.priorities c.loop-i.i (omega arith) (λ d. ap (λ x. x.entry.key.priority) (get_d_any c.args.slots.rows c.loop-i.i _ d (omega arith))) c.loop-i.invariant.4,
     )
 
 pub returns : goal.returns
 returns c i d h =
-    let m : i < c.args.t1.len = omega (arith, length-take-le c.args.t1.len c.args.t1.rows (omega (arith, c.loop-i.invariant.1, c.loop-i.invariant.2))) in
-    c.loop-i.invariant.4 i (omega arith) d ∙ sym (ap (λ x. x.entry.key.priority) (get_or-take c.args.t1.len c.args.t1.rows i d m))
+    let m : i < c.args.slots.len = omega (arith, length-take-le c.args.slots.len c.args.slots.rows (omega (arith, c.loop-i.invariant.1, c.loop-i.invariant.2))) in
+    c.loop-i.invariant.4 i (omega arith) d ∙ sym (ap (λ x. x.entry.key.priority) (get_or-take c.args.slots.len c.args.slots.rows i d m))

@@ -86,4 +86,4 @@ loop-j-preserved c =
     )
 
 pub returns : goal.returns
-returns c = starting_end _ _ _ _ _ c.loop-j.invariant.3 (omega (arith, c.loop-j-test.false, length-take-le c.args.t2.len c.args.t2.rows (omega (arith, c.requires.1, c.loop-j.invariant.2))))
+returns c = starting_end _ _ _ _ _ c.loop-j.invariant.3 (omega (arith, c.loop-j-test.false, length-take-le c.args.start.len c.args.start.rows (omega (arith, c.requires.1, c.loop-j.invariant.2))))

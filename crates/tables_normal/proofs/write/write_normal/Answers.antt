@@ -12,8 +12,8 @@ use Rattle.tables_normal.proofs.write.write_normal.Goals as goal
 
 pub loop-i-init : goal.loop-i-init
 loop-i-init c =
-    let size : length c.args.t2.rows ≡ 512 = search (rules, length_mapped, c.well_formed.1.0) in
-    (search rules, c.requires, size, refl, search rules, normal_none c.args.t2.rows c.args.t2.len _)
+    let size : length c.args.rows.rows ≡ 512 = search (rules, length_mapped, c.well_formed.1.0) in
+    (search rules, c.requires, size, refl, search rules, normal_none c.args.rows.rows c.args.rows.len _)
 
 pub overflow_add-at : goal.overflow_add-at
 overflow_add-at c = omega (arith, c.loop-i.invariant.4, line_room _ _ _ _ c.put_row-more.ensures)

@@ -4,7 +4,7 @@ use native.Mathlib.Omega.{arith}
 use borrow.Author.Rules.{rules}
 use lib.ListN.{get_or}
 use Rattle.text_numbers.specs.Number.{hex_value, read_hex_digits, read_hex}
-use Rattle.text_numbers.proofs.Hex.{hex_in, hex_end, hex_over, hex_more, hex_grows, hex_fits}
+use Rattle.text_numbers.proofs.HexLaws.{hex_in, hex_end, hex_over, hex_more, hex_grows, hex_fits}
 use Rattle.text_numbers.proofs.read.read_hex.Goals as goal
 
 pub loop-i-init : goal.loop-i-init

@@ -14,19 +14,19 @@ use Rattle.trace_clocks.proofs.clocks.check_clocks.Goals as goal
 
 pub loop-i-init : goal.loop-i-init
 loop-i-init c =
-    let n : length c.args.t1.events ≡ 256 = search (rules, length_mapped, c.well_formed.0) in
-    let size = sym (length_events c.args.t1 (omega (arith, c.requires))) in
+    let n : length c.args.t.events ≡ 256 = search (rules, length_mapped, c.well_formed.0) in
+    let size = sym (length_events c.args.t (omega (arith, c.requires))) in
     (omega arith, n, kept_none _ _ size c.none-later.ensures, passed_none _ _ size)
 
 pub loop-i-preserved : goal.loop-i-preserved
 loop-i-preserved c =
     let i = c.loop-i.i - 1 in
-    let size = length_events c.args.t1 (omega (arith, c.requires)) in
-    let here : i < length (events_of c.args.t1) = omega arith in
+    let size = length_events c.args.t (omega (arith, c.requires)) in
+    let here : i < length (events_of c.args.t) = omega arith in
     let next : i + 1 ≡ c.loop-i.i = omega arith in
     let kept = rw (← next) at c.loop-i.invariant.2 in
     let passed = rw (← next) at c.loop-i.invariant.3 in
-    let line : c.side-line.result ≡ side_at (events_of c.args.t1) i = c.side-line.ensures ∙ ap (λ (e : Event). side_of e.head e.operation) (sym (event_at_lem c.args.t1 i (omega arith))) in
+    let line : c.side-line.result ≡ side_at (events_of c.args.t) i = c.side-line.ensures ∙ ap (λ (e : Event). side_of e.head e.operation) (sym (event_at_lem c.args.t i (omega arith))) in
     let range : c.side-line.result.from < 4294967296 = omega (arith, c.side-line.type-inv) in (
       omega arith,
       c.loop-i.invariant.1,

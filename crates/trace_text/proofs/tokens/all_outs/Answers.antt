@@ -18,8 +18,8 @@ loop-k-preserved c =
       omega arith,
       c.loop-k.invariant.1,
       simp length-set c.loop-k.invariant.2,
-      noted_more (λ i. (event_at (events_of c.args.t1) i).head.outs) no_tokens c.loop-k.all c.loop-k.k (omega arith)
-          (ap (λ (e : Event). e.head.outs) (sym (event_at_lem c.args.t1 c.loop-k.k (omega arith)))) c.loop-k.invariant.3,
+      noted_more (λ i. (event_at (events_of c.args.t) i).head.outs) no_tokens c.loop-k.all c.loop-k.k (omega arith)
+          (ap (λ (e : Event). e.head.outs) (sym (event_at_lem c.args.t c.loop-k.k (omega arith)))) c.loop-k.invariant.3,
     )
 
 pub returns : goal.returns

@@ -44,5 +44,5 @@ loop-k-preserved c =
 
 pub returns : goal.returns
 returns c =
-    let fits : c.args.t1.len ≤ length c.args.t1.events = omega (arith, c.requires) in
-    tokens_checked _ c.loop-k.k (omega (arith, length_events c.args.t1 fits)) c.loop-k.invariant.3 c.loop-k.invariant.4 c.first_of.ensures
+    let fits : c.args.t.len ≤ length c.args.t.events = omega (arith, c.requires) in
+    tokens_checked _ c.loop-k.k (omega (arith, length_events c.args.t fits)) c.loop-k.invariant.3 c.loop-k.invariant.4 c.first_of.ensures

@@ -178,7 +178,7 @@ table_ext (d ∷ t) (e ∷ u) s r h = go (key_order d.key e.key) refl (table_ext
 
         actions : d.action ≡ e.action
         actions =
-            let f : get d.key (e ∷ u) ≡ some e.action = rw keys (get_head e u) in
+            let f : get d.key (e ∷ u) ≡ some e.action = ap (λ (k : Key). get k (e ∷ u)) keys ∙ get_head e u in
             some-injective d.action e.action (sym (get_head d t) ∙ h d.key ∙ f)
 
         heads : d ≡ e

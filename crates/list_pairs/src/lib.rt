@@ -1,5 +1,6 @@
 // The list: the pairs of table events of one switch, judged and counted, and the listed ones written down.
 #![tactic(auto)]
+
 mod counts; // the four counts, kept pair by pair
 pub mod listing; // the list of a trace's events
 mod pass; // one pass over the pairs

@@ -1,12 +1,12 @@
 -- The ends of lines, noted one after the other by a reader that goes through a text. Assumes nothing.
 use Prim.Native.Nat.{ℕ, ◌+◌, ◌-◌, ◌≤◌, ◌<◌}
-use mathlib.Core.Bool.{Bool, true, false, not}
+use mathlib.Core.Bool.{Bool, true, false}
 use mathlib.Core.List.{List, []}
 use mathlib.Core.Path.{◌≡◌, refl, sym, ap, ◌∙◌}
 use native.Mathlib.Omega.{arith}
 use borrow.Author.Tests.{ltb-true, ltb-false, leb-true, leb-false}
 use denote.Ref.{Bor}
-use lib.Dec.{T, ltb, leb}
+use lib.Dec.{ltb, leb}
 use lib.ListN.{length, get_or, take, drop, length-set, length-replicate}
 use Rattle.basics.proofs.Booleans.{split}
 use Rattle.basics.proofs.Arrays.{noted_more}
@@ -16,14 +16,6 @@ use Rattle.text_lines.proofs.Laws.{start_here, start_next, start_after, start_in
 use Rattle.text_reader.specs.Types.{LineReader, LineEnds}
 use Rattle.text_reader.specs.Inner.{left, no_ends, noted_at}
 use Rattle.text_reader.specs.Ends.{EndsOf}
-
-is_false : (b : Bool) → T (not b) → b ≡ false
-is_false true h = absurd h
-is_false false h = refl
-
-is_true : (b : Bool) → T (not (not b)) → b ≡ true
-is_true true h = refl
-is_true false h = absurd h
 
 -- the position past a line of n bytes
 pub past_line : (s : List ℕ) (at n : ℕ) (rest : List ℕ) → at < length s → rest ≡ drop at s → n ≡ line_length rest → at + n + 1 ≡ at + line_start (drop at s) 1
@@ -76,38 +68,37 @@ module _ (s : List ℕ) (at : ℕ) (e : LineEnds) (n : Noted s at e) where
   }
 
 -- ---- the same of a reader of that text, as the loop's tests and calls tell it
-pub record Going (s : Bor (List ℕ)) (d : LineReader) (e : LineEnds) : Type 0 where
-  same : d.text ≡ s
-  noted : Noted s.now d.at e
+pub record Going (s : List ℕ) (d : LineReader) (e : LineEnds) : Type 0 where
+  same : d.text.now ≡ s
+  noted : Noted s d.at e
 
-module _ (s : Bor (List ℕ)) where
-  pub going_start : (e : LineEnds) → e ≡ no_ends → Going s (record { text = s; at = 0 }) e
-  going_start e p = record { same = refl; noted = noted_none s.now e p }
+module _ (s : List ℕ) (d : LineReader) (e : LineEnds) where
+  pub going_start : d.text.now ≡ s → d.at ≡ 0 → e ≡ no_ends → Going s d e
+  going_start t z p = record { same = t; noted = rw z (noted_none s e p) }
 
-  -- whether the reader is at the end
-  module _ (d : LineReader) (e : LineEnds) (g : Going s d e) (b : Bool) (over : b ≡ leb (length d.text.now) d.at) where
-    over_here : b ≡ leb (length s.now) d.at
-    over_here = over ∙ ap (λ (t : Bor (List ℕ)). leb (length t.now) d.at) g.same
+  module _ (g : Going s d e) (b : Bool) (over : b ≡ leb (length d.text.now) d.at) where
+    over_here : b ≡ leb (length s) d.at
+    over_here = over ∙ ap (λ (t : List ℕ). leb (length t) d.at) g.same
 
-    pub going_end : T (not (not b)) → EndsOf s.now e
-    going_end t = noted_all s.now d.at e g.noted (leb-true _ _ (sym over_here ∙ is_true b t))
+    pub going_end : b ≡ true → EndsOf s e
+    going_end t = noted_all s d.at e g.noted (leb-true _ _ (sym over_here ∙ t))
 
-    some_left : T (not b) → d.at < length s.now
-    some_left t = leb-false _ _ (sym over_here ∙ is_false b t)
+    module _ (few : length (lines s) ≤ 256) (more : b ≡ false) where
+      some_left : d.at < length s
+      some_left = leb-false _ _ (sym over_here ∙ more)
 
-  module _ (few : length (lines s.now) ≤ 256) (d : LineReader) (e : LineEnds) (g : Going s d e) (b : Bool) (over : b ≡ leb (length d.text.now) d.at) (more : T (not b)) where
-    pub going_room : e.count < 256
-    going_room = noted_room s.now d.at e g.noted few (some_left d e g b over more)
+      pub going_room : e.count < 256
+      going_room = noted_room s d.at e g.noted few some_left
 
-    module _ (r : LineReader) (moved : (r.text ≡ d.text) × (r.at ≡ d.at + line_start (left d) 1)) where
-      moved_here : r.at ≡ d.at + line_start (drop d.at s.now) 1
-      moved_here = moved.1 ∙ ap (λ (t : Bor (List ℕ)). d.at + line_start (drop d.at t.now) 1) g.same
+      module _ (r : LineReader) (moved : (r.text ≡ d.text) × (r.at ≡ d.at + line_start (left d) 1)) where
+        moved_here : r.at ≡ d.at + line_start (drop d.at s) 1
+        moved_here = moved.1 ∙ ap (λ (t : List ℕ). d.at + line_start (drop d.at t) 1) g.same
 
-      pub going_on : length s.now - r.at < length s.now - d.at
-      going_on = omega (arith, some_left d e g b over more, noted_on s.now d.at e g.noted few (some_left d e g b over more) r.at moved_here)
+        pub going_on : length s - r.at < length s - d.at
+        going_on = omega (arith, some_left, noted_on s d.at e g.noted few some_left r.at moved_here)
 
-      pub going_turn : (f : LineEnds) → f ≡ noted_at e r.at → Going s r f
-      going_turn f p = record { same = moved.0 ∙ g.same; noted = noted_turn s.now d.at e g.noted few (some_left d e g b over more) r.at f moved_here p }
+        pub going_turn : (f : LineEnds) → f ≡ noted_at e r.at → Going s r f
+        going_turn f p = record { same = ap (λ (t : Bor (List ℕ)). t.now) moved.0 ∙ g.same; noted = noted_turn s d.at e g.noted few some_left r.at f moved_here p }
 
 -- ---- a line by its ends: from where it starts to where the next one does
 pub first_start : (s : List ℕ) → 0 ≡ line_start s 0

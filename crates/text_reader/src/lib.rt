@@ -1,6 +1,7 @@
 // The line reader: it keeps the lent text and how far it has come. Each function over it takes it apart and calls a covered function
 // on the text and the position. One reader goes through a text and notes where its lines end; a line is then cut out by its ends.
 #![tactic(auto)]
+
 ghost use Rattle.std.specs.Prelude.{◌≡◌, ◌+◌, ◌-◌, ◌≤◌, ◌<◌, leb, length, take, drop};
 ghost use Rattle.text_lines.specs.Lines.{lines, line_start};
 ghost use Rattle.text_reader.specs.Inner.{left, no_ends, noted_at};

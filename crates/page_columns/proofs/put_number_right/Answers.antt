@@ -21,4 +21,4 @@ pub put_right-requires : goal.put_right-requires
 put_right-requires c = (c.requires.0, c.requires.1, digits_short _ c.put_number-n.ensures)
 
 pub returns : goal.returns
-returns c = record { put = number_put _ _ (digits_there _ c.put_number-n.ensures refl) c.put_right.ensures.0; upper_bound = c.put_right.ensures.1 }
+returns c = record { put = number_put _ _ (digits_there _ c.put_number-n.ensures refl) c.put_right.ensures.put; upper_bound = c.put_right.ensures.upper_bound }

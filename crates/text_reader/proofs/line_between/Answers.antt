@@ -1,4 +1,3 @@
-use borrow.Author.Rules.{rules}
 use Rattle.text_reader.proofs.line_between.Goals as goal
 
 pub returns : goal.returns

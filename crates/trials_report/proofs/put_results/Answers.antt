@@ -18,8 +18,8 @@ put_result-at-requires c = (omega arith, omega arith)
 
 pub loop-i-preserved : goal.loop-i-preserved
 loop-i-preserved c =
-    let t = lines_turn c.args.first c.args.results.now c.args.out.now c.loop-i.i c.loop-i.invariant.4.1 c.loop-i.invariant.4.2 (omega arith) c.put_result-at.ensures.0 in
-    (omega arith, omega (arith, c.put_result-at.ensures.1), c.loop-i.invariant.2, c.loop-i.invariant.3, (_, t.0, t.1))
+    let t = lines_turn c.args.first c.args.results.now c.args.out.now c.loop-i.i c.loop-i.invariant.4.1 c.loop-i.invariant.4.2 (omega arith) c.put_result-at.ensures.put in
+    (omega arith, omega (arith, c.put_result-at.ensures.upper_bound), c.loop-i.invariant.2, c.loop-i.invariant.3, (_, t.0, t.1))
 
 pub shape_of-out : goal.shape_of-out
 shape_of-out c = put_length c.loop-i.invariant.4.1

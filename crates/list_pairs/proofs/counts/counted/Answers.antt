@@ -1,4 +1,3 @@
-use borrow.Author.Rules.{rules}
 use native.Mathlib.Omega.{arith}
 use Rattle.list_pairs.proofs.PairLaws.{counted_arm}
 use Rattle.list_pairs.proofs.counts.counted.Goals as goal

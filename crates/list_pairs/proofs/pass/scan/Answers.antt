@@ -9,7 +9,7 @@ use Rattle.trace_events.specs.Events.{events_of, event_at}
 use Rattle.trace_events.proofs.TraceLaws.{length_events}
 use Rattle.basics.proofs.Arrays.{length_mapped}
 use Rattle.list_pairs.proofs.Reading.{get_D_either}
-use Rattle.list_pairs.specs.Types.{TableUse}
+use Rattle.list_pairs.specs.Types.{Event, TableUse}
 use Rattle.list_pairs.specs.List.{test, Pair, pair_bytes, of_kind}
 use Rattle.list_verdicts.specs.Kinds.{listed, Kind}
 use Rattle.list_verdicts.specs.Inner.{no_use, verdict_by}
@@ -19,20 +19,15 @@ use Rattle.list_pairs.proofs.PairLaws.{pairs_of, row_start, row_most, small_of, 
 use Rattle.list_pairs.proofs.pass.scan.Goals as goal
 
 -- no count is more than there are pairs so far
-most : (q : tie.At-loop2 invariant-loop2 decreases-loop2 invariant-loop decreases-loop) (k : Kind) → count_of k q.loop2.sum ≤ q.before.before.before.before.loop.i * 256 + q.loop2.j
-most q k = 
-    let l = q.before.before.before.before.loop in
-    let s = q.before.before.before.before.before.before.before.before in
-    let es = events_of s.args.t in
-    omega (arith, q.loop2.invariant.2 k, l.invariant.2 k, below_most s.args.delay k es s.args.t.len l.i s.requires.0.0, row_most (test s.args.delay k es) l.i q.loop2.j)
+most : (delay : ℕ) (k : Kind) (es : List Event) (n i j x y : ℕ) → n ≤ 256 → x ≡ y + length (pairs_of delay k es i j) → y ≡ length (rows_below delay k es n i) → x ≤ i * 256 + j
+most delay k es n i j x y few xy ys = omega (arith, below_most delay k es n i few, row_most (test delay k es) i j)
 
 pub loop-i-init : goal.loop-i-init
 loop-i-init c = (omega arith, search (rules, length_mapped), c.no_counts-sum.ensures, refl, c.all_uses-uses.ensures.0)
 
 pub loop-j-init : goal.loop-j-init
 loop-j-init c =
-    let es = events_of c.args.t in
-    (
+    let es = events_of c.args.t in (
       omega arith,
       omega arith,
       λ k. rw (row_start (test _ k es) c.loop-i.i) (omega arith),
@@ -40,14 +35,14 @@ loop-j-init c =
     )
 
 pub overflow_mul-sum : goal.overflow_mul-sum
-overflow_mul-sum c = omega (arith, most PLACE<At-loop2> listed)
+overflow_mul-sum c = omega (arith, most c.args.delay listed (events_of c.args.t) c.args.t.len c.loop-i.i c.loop-j.j _ _ c.requires.len_bound.0 (c.loop-j.invariant.2 listed) (c.loop-i.invariant.2 listed))
 
 pub put_listed-requires : goal.put_listed-requires
 put_listed-requires c =
     let es = events_of c.args.t in
     omega (
       arith,
-      most PLACE<At-loop2> listed,
+      most c.args.delay listed (events_of c.args.t) c.args.t.len c.loop-i.i c.loop-j.j _ _ c.requires.len_bound.0 (c.loop-j.invariant.2 listed) (c.loop-i.invariant.2 listed),
       c.requires.len_bound,
       ap length c.loop-j.invariant.3,
       length-sets c.loop-i.list (2 * c.loop-i.sum.listed) (pair_bytes (pairs_of c.args.delay listed es c.loop-i.i c.loop-j.j)),
@@ -56,7 +51,7 @@ put_listed-requires c =
     )
 
 pub counted-next-requires : goal.counted-next-requires
-counted-next-requires c = small_of c.loop-j.sum (λ k. omega (arith, most PLACE<At-loop2> k, c.requires.len_bound))
+counted-next-requires c = small_of c.loop-j.sum (λ k. omega (arith, most c.args.delay k (events_of c.args.t) c.args.t.len c.loop-i.i c.loop-j.j _ _ c.requires.len_bound.0 (c.loop-j.invariant.2 k) (c.loop-i.invariant.2 k), c.requires.len_bound))
 
 pub loop-j-preserved : goal.loop-j-preserved
 loop-j-preserved c =
@@ -92,10 +87,13 @@ shape_of-list c = ap length c.loop-i.invariant.3 ∙ simp length-sets
 pub returns : goal.returns
 returns c =
     let size : length (events_of c.args.t) ≡ c.args.t.len = length_events c.args.t (omega (arith, c.requires.len_bound)) in
-    let e : c.loop-i.i ≡ c.args.t.len = omega arith in (
-      counted c.args.delay (events_of c.args.t) c.loop-i.sum
-          (λ k. c.loop-i.invariant.2 k ∙ ap (λ (m : ℕ). length (rows_below c.args.delay k (events_of c.args.t) c.args.t.len m)) e ∙ ap length (all_rows c.args.delay k (events_of c.args.t) c.args.t.len) ∙ ap (λ (m : ℕ). length (of_kind c.args.delay k (events_of c.args.t) m)) (sym size)),
-      c.loop-i.invariant.3
+    let e : c.loop-i.i ≡ c.args.t.len = omega arith in
+    record {
+      value =
+          counted c.args.delay (events_of c.args.t) c.loop-i.sum
+          (λ k. c.loop-i.invariant.2 k ∙ ap (λ (m : ℕ). length (rows_below c.args.delay k (events_of c.args.t) c.args.t.len m)) e ∙ ap length (all_rows c.args.delay k (events_of c.args.t) c.args.t.len) ∙ ap (λ (m : ℕ). length (of_kind c.args.delay k (events_of c.args.t) m)) (sym size));
+      list_after =
+          c.loop-i.invariant.3
           ∙ ap (λ (m : ℕ). sets c.args.list.now 0 (pair_bytes (rows_below c.args.delay listed (events_of c.args.t) c.args.t.len m))) e
-          ∙ ap (λ (ps : List Pair). sets c.args.list.now 0 (pair_bytes ps)) (all_rows c.args.delay listed (events_of c.args.t) c.args.t.len ∙ ap (of_kind c.args.delay listed (events_of c.args.t)) (sym size)),
-    )
+          ∙ ap (λ (ps : List Pair). sets c.args.list.now 0 (pair_bytes ps)) (all_rows c.args.delay listed (events_of c.args.t) c.args.t.len ∙ ap (of_kind c.args.delay listed (events_of c.args.t)) (sym size));
+    }

@@ -14,8 +14,8 @@ loop-i-init c = (omega arith, omega arith, c.requires, ([], put_none 0 _, refl))
 
 pub loop-i-preserved : goal.loop-i-preserved
 loop-i-preserved c =
-    let t = pairs_turn race_line c.args.list.now c.args.out.now c.loop-i.i c.loop-i.invariant.3.1 c.loop-i.invariant.3.2 (omega arith) c.put_race-at.ensures.0 in
-    (omega arith, omega (arith, c.put_race-at.ensures.1), c.loop-i.invariant.2, (_, t.0, t.1))
+    let t = pairs_turn race_line c.args.list.now c.args.out.now c.loop-i.i c.loop-i.invariant.3.1 c.loop-i.invariant.3.2 (omega arith) c.put_race-at.ensures.put in
+    (omega arith, omega (arith, c.put_race-at.ensures.upper_bound), c.loop-i.invariant.2, (_, t.0, t.1))
 
 pub shape_of-out : goal.shape_of-out
 shape_of-out c = put_length c.loop-i.invariant.3.1

@@ -10,4 +10,4 @@ pub returns-in-Absent : goal.returns-in-Absent
 returns-in-Absent c = record { put = (arm_put (λ (p : Priority). right 5 (priority_text p)) c.in-Absent.is c.put_right.ensures).0; upper_bound = (arm_put (λ (p : Priority). right 5 (priority_text p)) c.in-Absent.is c.put_right.ensures).1 }
 
 pub returns-in-Of : goal.returns-in-Of
-returns-in-Of c = record { put = (arm_put (λ (p : Priority). right 5 (priority_text p)) c.in-Of.is (c.put_in_five.ensures.0, omega (arith, c.put_in_five.ensures.1))).0; upper_bound = (arm_put (λ (p : Priority). right 5 (priority_text p)) c.in-Of.is (c.put_in_five.ensures.0, omega (arith, c.put_in_five.ensures.1))).1 }
+returns-in-Of c = record { put = (arm_put (λ (p : Priority). right 5 (priority_text p)) c.in-Of.is (c.put_in_five.ensures.put, omega (arith, c.put_in_five.ensures.value))).0; upper_bound = (arm_put (λ (p : Priority). right 5 (priority_text p)) c.in-Of.is (c.put_in_five.ensures.put, omega (arith, c.put_in_five.ensures.value))).1 }

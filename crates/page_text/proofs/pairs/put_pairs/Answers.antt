@@ -22,7 +22,7 @@ abbrev Inside : Trace → List ℕ → Type 0
 Inside t list = (t.len ≤ 256) × (length t.events ≡ 256) × ((k : ℕ) → k < length list → get_or list k 0 < t.len) × ((i : ℕ) → EventInRange (event_at (events_of t) i))
 
 pub loop-i-init : goal.loop-i-init
-loop-i-init c = (omega arith, omega arith, c.requires.0.1, (c.requires.0.0, search (rules, length_mapped), c.requires.1.0, c.requires.1.1), ([], put_none 0 _, refl))
+loop-i-init c = (omega arith, omega arith, c.requires.len_bound.1, (c.requires.len_bound.0, search (rules, length_mapped), c.requires.by_index, c.requires.by_index_2), ([], put_none 0 _, refl))
 
 pub overflow_cast-a : goal.overflow_cast-a
 overflow_cast-a c =
@@ -58,18 +58,18 @@ pub put_pair_line-at-requires : goal.put_pair_line-at-requires
 put_pair_line-at-requires c =
     (
       omega arith,
-      line_range c.args.t2 c.args.list.now c.loop-i.i (c.loop-i.invariant.3.2 c.loop-i.i (omega arith)) (c.loop-i.invariant.3.2 (c.loop-i.i + 1) (omega arith)) c.pair_line-line.ensures c.loop-i.invariant.3.0 c.loop-i.invariant.3.3,
+      line_range c.args.t c.args.list.now c.loop-i.i (c.loop-i.invariant.3.2 c.loop-i.i (omega arith)) (c.loop-i.invariant.3.2 (c.loop-i.i + 1) (omega arith)) c.pair_line-line.ensures c.loop-i.invariant.3.0 c.loop-i.invariant.3.3,
     )
 
 pub loop-i-preserved : goal.loop-i-preserved
 loop-i-preserved c =
-    let made = line_made c.args.t2 c.args.list.now c.loop-i.i (c.loop-i.invariant.3.2 c.loop-i.i (omega arith)) (c.loop-i.invariant.3.2 (c.loop-i.i + 1) (omega arith)) c.pair_line-line.ensures c.put_pair_line-at.ensures.0 in
-    let t = pairs_turn (line_of_pair (events_of c.args.t2)) c.args.list.now c.args.out.now c.loop-i.i c.loop-i.invariant.4.1 c.loop-i.invariant.4.2 (omega arith) made in
-    (omega arith, omega (arith, c.put_pair_line-at.ensures.1), c.loop-i.invariant.2, c.loop-i.invariant.3, (_, t.0, t.1))
+    let made = line_made c.args.t c.args.list.now c.loop-i.i (c.loop-i.invariant.3.2 c.loop-i.i (omega arith)) (c.loop-i.invariant.3.2 (c.loop-i.i + 1) (omega arith)) c.pair_line-line.ensures c.put_pair_line-at.ensures.put in
+    let t = pairs_turn (line_of_pair (events_of c.args.t)) c.args.list.now c.args.out.now c.loop-i.i c.loop-i.invariant.4.1 c.loop-i.invariant.4.2 (omega arith) made in
+    (omega arith, omega (arith, c.put_pair_line-at.ensures.value), c.loop-i.invariant.2, c.loop-i.invariant.3, (_, t.0, t.1))
 
 pub shape_of-out : goal.shape_of-out
 shape_of-out c = put_length c.loop-i.invariant.4.1
 
 pub returns : goal.returns
 unfolding pairs_text
-returns c = record { put = pairs_done (line_of_pair (events_of c.args.t2)) c.args.list.now c.args.out.now c.loop-i.i c.loop-i.invariant.4.1 c.loop-i.invariant.4.2 (omega arith); upper_bound = omega arith }
+returns c = record { put = pairs_done (line_of_pair (events_of c.args.t)) c.args.list.now c.args.out.now c.loop-i.i c.loop-i.invariant.4.1 c.loop-i.invariant.4.2 (omega arith); upper_bound = omega arith }

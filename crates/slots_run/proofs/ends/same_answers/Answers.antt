@@ -40,8 +40,8 @@ returns-then-not-same_answer c =
 
 pub loop-i-preserved : goal.loop-i-preserved
 loop-i-preserved c =
-    let here : kept_at c.args.t1 c.loop-i.i ≡ kept_at c.args.t2 c.loop-i.i = (same_answer_iff _ _).0 (was_true c.same_answer.ensures c.if-not-same_answer.false-raw) in
-    (c.loop-i.invariant.0, c.loop-i.invariant.1, omega (arith, c.loop-i-test.true), holds_more (λ k. kept_at c.args.t1 k ≡ kept_at c.args.t2 k) c.loop-i.i here c.loop-i.invariant.3)
+    let here : kept_at c.args.a c.loop-i.i ≡ kept_at c.args.b c.loop-i.i = (same_answer_iff _ _).0 (was_true c.same_answer.ensures c.if-not-same_answer.false-raw) in
+    (c.loop-i.invariant.0, c.loop-i.invariant.1, omega (arith, c.loop-i-test.true), holds_more (λ k. kept_at c.args.a k ≡ kept_at c.args.b k) c.loop-i.i here c.loop-i.invariant.3)
 
 pub returns : goal.returns
 returns c = (λ e k h. c.loop-i.invariant.3 k (omega (arith, c.loop-i-test.false)), λ f. refl)

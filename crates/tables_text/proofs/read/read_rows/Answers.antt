@@ -23,13 +23,13 @@ line_between-line-requires c = ends_rise _ _ c.line_ends-ends.ensures c.loop-k.k
 pub returns-in-Refused : goal.returns-in-Refused
 returns-in-Refused c =
     let inside : c.loop-k.k < length (lines c.args.text.now) = omega (arith, c.line_ends-ends.ensures.count, c.loop-k-test.true) in
-    let here : c.line_between-line.result.now ≡ get_or (lines c.args.text.now) c.loop-k.k [] =  ends_line _ _ c.line_ends-ends.ensures c.loop-k.k (inside) _ c.loop-k.invariant.2 c.line_between-line.ensures in
+    let here : c.line_between-line.result.now ≡ get_or (lines c.args.text.now) c.loop-k.k [] = ends_line _ _ c.line_ends-ends.ensures c.loop-k.k (inside) _ c.loop-k.invariant.2 c.line_between-line.ensures in
     rw (← rest_refused _ _ _ _ c.loop-k.invariant.3 (inside) _ (here) _ (seen as_row c.row_line-read.ensures c.in-Refused.is)) c.refused.ensures
 
 pub loop-k-preserved : goal.loop-k-preserved
 loop-k-preserved c =
     let inside : c.loop-k.k < length (lines c.args.text.now) = omega (arith, c.line_ends-ends.ensures.count, c.loop-k-test.true) in
-    let here : c.line_between-line.result.now ≡ get_or (lines c.args.text.now) c.loop-k.k [] =  ends_line _ _ c.line_ends-ends.ensures c.loop-k.k (inside) _ c.loop-k.invariant.2 c.line_between-line.ensures in
+    let here : c.line_between-line.result.now ≡ get_or (lines c.args.text.now) c.loop-k.k [] = ends_line _ _ c.line_ends-ends.ensures c.loop-k.k (inside) _ c.loop-k.invariant.2 c.line_between-line.ensures in
     let more : take (c.loop-k.k + 1) (set c.loop-k.rows.rows c.loop-k.k c.in-Read.row) ≡ take c.loop-k.rows.len c.loop-k.rows.rows ++ (c.in-Read.row ∷ []) =
     pushed c.loop-k.rows.rows c.loop-k.k c.in-Read.row (omega (arith, inside, c.loop-k.invariant.4)) ∙ ap (λ (j : ℕ). take j c.loop-k.rows.rows ++ (c.in-Read.row ∷ [])) (sym c.loop-k.invariant.1) in (
       omega arith,

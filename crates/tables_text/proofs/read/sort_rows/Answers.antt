@@ -1,5 +1,4 @@
 use native.Mathlib.Omega.{arith}
-use borrow.Author.Rules.{rules}
 use Rattle.tables_text.proofs.Checks.{sorted_rows_lem, twice_rows}
 use Rattle.tables_text.proofs.read.sort_rows.Goals as goal
 

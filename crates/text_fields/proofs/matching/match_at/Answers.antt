@@ -7,20 +7,24 @@ use Rattle.text_fields.specs.Inner.{as_exact, as_prefix}
 use Rattle.text_fields.proofs.matching.match_at.Goals as goal
 
 pub returns-in_default : goal.returns-in_default
+unfolding read_match read_fields
 returns-in_default c = or_refused _ (both_none _ _ _ _ _ (seen as_exact c.exact_at.ensures c.in_default.is))
 
-pub enum_told-in_default-vlan_at : goal.enum_told-in_default-vlan_at
-enum_told-in_default-vlan_at c =
+pub returns-in_default-vlan_at : goal.returns-in_default-vlan_at
+unfolding read_match read_fields
+returns-in_default-vlan_at c =
     or_refused _ (both_some _ _ _ _ _ (seen as_exact c.exact_at.ensures c.in-Read.is)
-    (both_none _ _ _ _ _ (seen as_exact c.vlan_at.ensures c.enum-told2.given.1)))
+    (both_none _ _ _ _ _ (seen as_exact c.vlan_at.ensures c.in_default-vlan_at.is)))
 
-pub enum_told-in_default-prefix_at : goal.enum_told-in_default-prefix_at
-enum_told-in_default-prefix_at c =
+pub returns-in_default-prefix_at : goal.returns-in_default-prefix_at
+unfolding read_match read_fields
+returns-in_default-prefix_at c =
     or_refused _ (both_some _ _ _ _ _ (seen as_exact c.exact_at.ensures c.in-Read.is)
     (both_some _ _ _ _ _ (seen as_exact c.vlan_at.ensures c.in-Read-vlan_at.is)
-    (both_none _ _ _ _ _ (seen as_prefix c.prefix_at.ensures c.enum-told3.given.1))))
+    (both_none _ _ _ _ _ (seen as_prefix c.prefix_at.ensures c.in_default-prefix_at.is))))
 
 pub returns-in_default-prefix_at-2 : goal.returns-in_default-prefix_at-2
+unfolding read_match read_fields
 returns-in_default-prefix_at-2 c =
     or_refused _ (both_some _ _ _ _ _ (seen as_exact c.exact_at.ensures c.in-Read.is)
     (both_some _ _ _ _ _ (seen as_exact c.vlan_at.ensures c.in-Read-vlan_at.is)
@@ -28,6 +32,7 @@ returns-in_default-prefix_at-2 c =
     (both_none _ _ _ _ _ (seen as_prefix c.prefix_at-2.ensures c.in_default-prefix_at-2.is)))))
 
 pub returns : goal.returns
+unfolding read_match read_fields
 returns c =
     carried_on _ c.match_behind.ensures (both_some _ _ _ _ _ (seen as_exact c.exact_at.ensures c.in-Read.is)
     (both_some _ _ _ _ _ (seen as_exact c.vlan_at.ensures c.in-Read-vlan_at.is)

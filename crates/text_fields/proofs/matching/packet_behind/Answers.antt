@@ -5,21 +5,25 @@ use Rattle.text_numbers.specs.Inner.{as_number}
 use Rattle.text_fields.specs.Read.{read_last}
 use Rattle.text_fields.proofs.matching.packet_behind.Goals as goal
 
-pub enum_told-1 : goal.enum_told-1
-enum_told-1 c = or_refused _ (both_none _ _ _ _ _ (seen as_number c.number_at.ensures c.enum_told.given.1))
+pub returns-in_default : goal.returns-in_default
+unfolding read_last
+returns-in_default c = or_refused _ (both_none _ _ _ _ _ (seen as_number c.number_at.ensures c.in_default.is))
 
-pub enum_told-in_default-number_at : goal.enum_told-in_default-number_at
-enum_told-in_default-number_at c =
+pub returns-in_default-number_at : goal.returns-in_default-number_at
+unfolding read_last
+returns-in_default-number_at c =
     or_refused _ (both_some _ _ _ _ _ (seen as_number c.number_at.ensures c.in-Read.is)
-    (both_none _ _ _ _ _ (seen as_number c.number_at-2.ensures c.enum-told2.given.1)))
+    (both_none _ _ _ _ _ (seen as_number c.number_at-2.ensures c.in_default-number_at.is)))
 
 pub returns-in_default-number_at-2 : goal.returns-in_default-number_at-2
+unfolding read_last
 returns-in_default-number_at-2 c =
     or_refused _ (both_some _ _ _ _ _ (seen as_number c.number_at.ensures c.in-Read.is)
     (both_some _ _ _ _ _ (seen as_number c.number_at-2.ensures c.in-Read-number_at.is)
     (mapped_none _ _ _ _ (seen as_number c.number_at-3.ensures c.in_default-number_at-2.is))))
 
 pub returns : goal.returns
+unfolding read_last
 returns c =
     or_refused _ (both_some _ _ _ _ _ (seen as_number c.number_at.ensures c.in-Read.is)
     (both_some _ _ _ _ _ (seen as_number c.number_at-2.ensures c.in-Read-number_at.is)

@@ -8,14 +8,17 @@ use Rattle.trace_operation.specs.Inner.{as_operation}
 use Rattle.trace_line.proofs.line.event_behind.Goals as goal
 
 pub returns-in_default : goal.returns-in_default
+unfolding read_parts
 returns-in_default c = ap (λ r. on_line c.args.line (at_end c.args.s.now r)) (both_none _ _ _ _ _ (answered as_head _ _ c.head_at.ensures c.in_default.is))
 
 pub returns-in_default-operation_at : goal.returns-in_default-operation_at
+unfolding read_parts
 returns-in_default-operation_at c =
     ap (λ r. on_line c.args.line (at_end c.args.s.now r)) (both_some _ _ _ _ _ (answered as_head _ _ c.head_at.ensures c.in-Read.is)
     (mapped_none _ _ _ _ (answered as_operation _ _ c.operation_at.ensures c.in_default-operation_at.is)))
 
 pub returns : goal.returns
+unfolding read_parts
 returns c =
     c.checked.ensures
     ∙ ap (λ r. on_line c.args.line (at_end c.args.s.now r)) (both_some _ _ _ _ _ (answered as_head _ _ c.head_at.ensures c.in-Read.is)

@@ -7,8 +7,8 @@ use Rattle.text_numbers.proofs.Format.{keyed_below}
 use Rattle.trace_operation.proofs.OperationLaws.{no_switch, bad_switch, on_switch_lem}
 use Rattle.trace_operation.proofs.read.operation_at.Goals as goal
 
-pub enum_told-1 : goal.enum_told-1
-enum_told-1 c = or_refused _ (no_switch _ _ c.enum_told.given.1)
+pub returns-in_default : goal.returns-in_default
+returns-in_default c = or_refused _ (no_switch _ _ c.in_default.is)
 
 pub returns-in_default-number_at : goal.returns-in_default-number_at
 returns-in_default-number_at c = or_refused _ (bad_switch _ _ c.in-On.is (seen as_number c.number_at.ensures c.in_default-number_at.is))

@@ -4,6 +4,7 @@ use Rattle.trace_words.proofs.WordFormat.{word_before}
 use Rattle.trace_words.proofs.read.read_word.Goals as goal
 
 pub returns : goal.returns
+unfolding read_word
 returns c =
     word_before _ _ _ _
     (word_before _ _ _ _

@@ -11,13 +11,13 @@ pub returns-in-Pkt : goal.returns-in-Pkt
 returns-in-Pkt c = in_form c.in-Pkt.is (c.of_match.ensures.0 ∙ ap (λ (m : Match). printed EffectKind.Pkt (at 0 m) 0) c.exactly.ensures, subst Narrow c.exactly.ensures c.of_match.ensures.1)
 
 pub returns-in-Add : goal.returns-in-Add
-returns-in-Add c = in_form c.effect-in-Add-1.given.1 (c.of_key.ensures.0 ∙ ap (printed EffectKind.Add c.effect-in-Add-1.given.0.0) c.code.ensures, c.of_key.ensures.1)
+returns-in-Add c = in_form c.in-Add.is (c.of_key.ensures.0 ∙ ap (printed EffectKind.Add c.in-Add.k) c.code.ensures, c.of_key.ensures.1)
 
 pub returns-in-Addc : goal.returns-in-Addc
-returns-in-Addc c = in_form c.effect-in-Addc-1.given.1 (c.of_key-in-Addc.ensures.0 ∙ ap (printed EffectKind.Addc c.effect-in-Addc-1.given.0.0) c.code-in-Addc.ensures, c.of_key-in-Addc.ensures.1)
+returns-in-Addc c = in_form c.in-Addc.is (c.of_key-in-Addc.ensures.0 ∙ ap (printed EffectKind.Addc c.in-Addc.k) c.code-in-Addc.ensures, c.of_key-in-Addc.ensures.1)
 
 pub returns-in-Modn : goal.returns-in-Modn
-returns-in-Modn c = in_form c.effect-in-Modn-1.given.1 (c.of_key-in-Modn.ensures.0 ∙ ap (printed EffectKind.Modn c.effect-in-Modn-1.given.0.0) c.code-in-Modn.ensures, c.of_key-in-Modn.ensures.1)
+returns-in-Modn c = in_form c.in-Modn.is (c.of_key-in-Modn.ensures.0 ∙ ap (printed EffectKind.Modn c.in-Modn.k) c.code-in-Modn.ensures, c.of_key-in-Modn.ensures.1)
 
 pub returns-in-Dels : goal.returns-in-Dels
 returns-in-Dels c = in_form c.in-Dels.is c.of_key-in-Dels.ensures

@@ -13,4 +13,4 @@ pub returns-in-Clash : goal.returns-in-Clash
 returns-in-Clash c = by_arm (λ f. passes f c.args.key) c.in-Clash.is c.clash.ensures
 
 pub returns-in-Fits : goal.returns-in-Fits
-returns-in-Fits c = by_arm (λ f. passes f c.args.key) c.in-Fits.is c.fits2.ensures
+returns-in-Fits c = by_arm (λ f. passes f c.args.key) c.in-Fits.is c.fits.ensures

@@ -7,13 +7,13 @@ use borrow.Author.Rules.{rules}
 use Rattle.slots_plan.proofs.asking.Question.asks.Goals as goal
 
 pub returns-in-Same : goal.returns-in-Same
-returns-in-Same c = by_arm (λ q. asks q c.args.priority c.args.bits) c.self-1.given.1 (ap (λ b. eqb c.args.priority c.self-1.given.0.0 && b) c.same.ensures)
+returns-in-Same c = by_arm (λ q. asks q c.args.priority c.args.bits) c.in-Same.is (ap (λ b. eqb c.args.priority c.in-Same.p && b) c.same.ensures)
 
 pub returns-in-Within : goal.returns-in-Within
 returns-in-Within c = by_arm (λ q. asks q c.args.priority c.args.bits) c.in-Within.is c.within.ensures
 
 pub returns-in-Clash : goal.returns-in-Clash
-returns-in-Clash c = by_arm (λ q. asks q c.args.priority c.args.bits) c.self-in-Clash-1.given.1 (ap (λ b. eqb c.self-in-Clash-1.given.0.0 c.args.priority && b) c.overlaps.ensures)
+returns-in-Clash c = by_arm (λ q. asks q c.args.priority c.args.bits) c.in-Clash.is (ap (λ b. eqb c.in-Clash.p c.args.priority && b) c.overlaps.ensures)
 
 pub returns-in-Fits : goal.returns-in-Fits
 returns-in-Fits c = by_arm (λ q. asks q c.args.priority c.args.bits) c.in-Fits.is c.overlaps-in-Fits.ensures

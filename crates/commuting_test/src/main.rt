@@ -1,6 +1,7 @@
 // The verdict on each cell of document 01's table of commuting pairs, both ways round and on both sides of its condition.
 // What must come out is in the file `stdout`.
 #![tactic(auto)]
+
 use commuting::Footprint;
 use flow::{Action, Entry, Exact, Key, Match, Packet, Prefix};
 use flow_table::{Origin, TableOperation, table_effect};

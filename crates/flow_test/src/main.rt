@@ -1,6 +1,7 @@
 // Vectors for matches and table order: document 01's examples of addresses, the masks of all lengths, each pair of the
 // matches below, and each packet against each match. What must come out is in the file `stdout`.
 #![tactic(auto)]
+
 ghost use Rattle.std.specs.Prelude.{◌<◌};
 
 use flow::{Action, Exact, Key, Match, Ordering, Packet, Prefix};
@@ -125,22 +126,39 @@ fn packet<R: Print + Eprint>(rt: &R, p: Packet) {
     end_line(rt);
 }
 
-fn sent<R: Print + Eprint>(rt: &R, port: u16, vlan: u16, src: u32, dst: u32, proto: u16, sport: u16, dport: u16) {
-    packet(rt, Packet {
-        port,
-        vlan,
-        src,
-        dst,
-        proto,
-        sport,
-        dport,
-    });
+fn sent<R: Print + Eprint>(
+    rt: &R,
+    port: u16,
+    vlan: u16,
+    src: u32,
+    dst: u32,
+    proto: u16,
+    sport: u16,
+    dport: u16,
+) {
+    packet(
+        rt,
+        Packet {
+            port,
+            vlan,
+            src,
+            dst,
+            proto,
+            sport,
+            dport,
+        },
+    );
 }
 
 fn address<R: Print + Eprint>(rt: &R, name: &[u8], value: u32, length: u8) {
     let p = Prefix { value, length };
     say(rt, name);
-    say_if(rt, p.is_clear(), b" passes\n", b" has a bit past its length\n");
+    say_if(
+        rt,
+        p.is_clear(),
+        b" passes\n",
+        b" has a bit past its length\n",
+    );
 }
 
 // The mask of a length, as 8 hexadecimal digits.

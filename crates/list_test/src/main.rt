@@ -1,5 +1,6 @@
 // Prints the report on each trace text of its data files. What must come out is in the file `stdout`.
 #![tactic(auto)]
+
 use program_delay::DELAY;
 use std::rt::Files;
 

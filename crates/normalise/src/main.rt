@@ -1,5 +1,6 @@
 // Reads a table text from standard input, and writes its normal form or what is refused to standard output.
 #![tactic(auto)]
+
 use call_answers::NormalAnswer;
 
 fn answer<R: Print + Eprint>(rt: &R, tables: &[u8]) {

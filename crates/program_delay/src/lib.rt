@@ -1,5 +1,6 @@
 // The delay that a program calls with, in milliseconds: the one that an argument gives, or the usual one.
 #![tactic(auto)]
+
 ghost use Rattle.std.specs.Prelude.{◌≡◌};
 ghost use Rattle.program_delay.specs.Delays.{delay_of};
 ghost use Rattle.program_delay.specs.Inner.{as_delay};

@@ -1,5 +1,6 @@
 // What the programs write on standard output. What can't be written is said on standard error.
 #![tactic(auto)]
+
 use refusals::Refusal;
 use std::io;
 

@@ -1,5 +1,6 @@
 // Reads a trace from standard input, and writes its races and their counts, or what is refused, to standard output.
 #![tactic(auto)]
+
 ghost use Rattle.std.specs.Prelude.{◌≡◌, length, replicate};
 
 use program_delay::DELAY;

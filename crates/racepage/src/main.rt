@@ -1,5 +1,6 @@
 // Reads a trace from standard input, and writes the page of its list, or what is refused, to standard output.
 #![tactic(auto)]
+
 ghost use Rattle.std.specs.Prelude.{◌≡◌, length};
 ghost use Rattle.basics.specs.Text.{zeros};
 

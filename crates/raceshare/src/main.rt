@@ -1,5 +1,6 @@
 // Reads a trace from standard input, and writes how many of its unordered pairs commute, or what is refused, to standard output.
 #![tactic(auto)]
+
 use call_answers::ShareAnswer;
 use program_delay::DELAY;
 

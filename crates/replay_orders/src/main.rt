@@ -2,6 +2,7 @@
 // holds the orders end to end, a byte for each event. DELAY is in milliseconds; left out, it is the usual one. Prints a line for each
 // order, or what is refused.
 #![tactic(auto)]
+
 ghost use Rattle.std.specs.Prelude.{◌≡◌, ◌+◌, ◌≤◌, ◌<◌, length};
 
 use call_answers::TrialsAnswer;
@@ -54,7 +55,13 @@ fn print_results<R: Print + Eprint>(rt: &R, results: &[u8])
     }
 }
 
-fn print_tried<'a, R: Print + Eprint>(rt: &R, trace: &'a [u8], tables: &'a [u8], orders: &[u8], delay: u32) {
+fn print_tried<'a, R: Print + Eprint>(
+    rt: &R,
+    trace: &'a [u8],
+    tables: &'a [u8],
+    orders: &[u8],
+    delay: u32,
+) {
     let mut results = result_room();
     let a = trials_call::try_orders(trace, tables, orders, delay, &mut results);
     match a {
@@ -68,7 +75,12 @@ fn print_tried<'a, R: Print + Eprint>(rt: &R, trace: &'a [u8], tables: &'a [u8],
 }
 
 // With the orders of the third file.
-fn try_file<'a, R: Env + Files + Print + Eprint>(rt: &R, trace: &'a [u8], tables: &'a [u8], delay: u32) {
+fn try_file<'a, R: Env + Files + Print + Eprint>(
+    rt: &R,
+    trace: &'a [u8],
+    tables: &'a [u8],
+    delay: u32,
+) {
     let mut buf = order_room();
     let orders = read_arg(rt, 3, &mut buf);
     if !orders.ok {

@@ -3,6 +3,7 @@
 // its own; `small` all 120 orders of five events, and orders that are none; `pout` all 24 orders of a rule, a barrier and two
 // packets; `clock` all 24 orders of four events that clocks order in part; `full` 256 events on 256 entries.
 #![tactic(auto)]
+
 use call_answers::ReplayAnswer;
 use program_delay::DELAY;
 use std::rt::Files;
@@ -56,7 +57,14 @@ fn replay_within<'a, R: Print + Eprint>(
 }
 
 // Into buffers of these lengths.
-fn replay_short<'a, R: Print + Eprint>(rt: &R, trace: &'a [u8], tables: &'a [u8], order: &[u8], n: usize, m: usize) {
+fn replay_short<'a, R: Print + Eprint>(
+    rt: &R,
+    trace: &'a [u8],
+    tables: &'a [u8],
+    order: &[u8],
+    n: usize,
+    m: usize,
+) {
     let mut ends = [0u8; 65536];
     let mut answers = [0u8; 8192];
     if n <= 65536 {
@@ -92,7 +100,13 @@ fn replay_recorded<'a, R: Print + Eprint>(rt: &R, trace: &'a [u8], tables: &'a [
     replay_shorter(rt, trace, tables, recorded);
 }
 
-fn replay_line<'a, R: Print + Eprint>(rt: &R, trace: &'a [u8], tables: &'a [u8], orders: &[u8], k: usize) {
+fn replay_line<'a, R: Print + Eprint>(
+    rt: &R,
+    trace: &'a [u8],
+    tables: &'a [u8],
+    orders: &[u8],
+    k: usize,
+) {
     program_output::field(rt, b"order ", k as u64);
     program_output::end_line(rt);
     replay_order(rt, trace, tables, text_lines::nth_line(orders, k));
@@ -104,7 +118,12 @@ fn replay_lines<'a, R: Print + Eprint>(rt: &R, trace: &'a [u8], tables: &'a [u8]
     }
 }
 
-fn replay_texts<'a, R: Files + Print + Eprint>(rt: &R, trace: &'a [u8], tables: &'a [u8], orders_name: &[u8]) {
+fn replay_texts<'a, R: Files + Print + Eprint>(
+    rt: &R,
+    trace: &'a [u8],
+    tables: &'a [u8],
+    orders_name: &[u8],
+) {
     let mut orders = [0u8; 4096];
     let read = program_input::read_file(rt, orders_name, &mut orders);
     if read.ok {
@@ -114,7 +133,13 @@ fn replay_texts<'a, R: Files + Print + Eprint>(rt: &R, trace: &'a [u8], tables: 
     }
 }
 
-fn replay_files<R: Files + Print + Eprint>(rt: &R, name: &[u8], trace_name: &[u8], tables_name: &[u8], orders_name: &[u8]) {
+fn replay_files<R: Files + Print + Eprint>(
+    rt: &R,
+    name: &[u8],
+    trace_name: &[u8],
+    tables_name: &[u8],
+    orders_name: &[u8],
+) {
     program_output::write(rt, b"trace ");
     program_output::write(rt, name);
     program_output::end_line(rt);
@@ -131,8 +156,20 @@ fn replay_files<R: Files + Print + Eprint>(rt: &R, name: &[u8], trace_name: &[u8
 
 fn main(rt: HostRuntime) {
     replay_files(&rt, b"ops", b"ops_trace", b"ops_tables", b"ops_orders");
-    replay_files(&rt, b"small", b"small_trace", b"small_tables", b"small_orders");
+    replay_files(
+        &rt,
+        b"small",
+        b"small_trace",
+        b"small_tables",
+        b"small_orders",
+    );
     replay_files(&rt, b"pout", b"pout_trace", b"pout_tables", b"pout_orders");
-    replay_files(&rt, b"clock", b"clock_trace", b"clock_tables", b"clock_orders");
+    replay_files(
+        &rt,
+        b"clock",
+        b"clock_trace",
+        b"clock_tables",
+        b"clock_orders",
+    );
     replay_files(&rt, b"full", b"full_trace", b"full_tables", b"full_orders");
 }

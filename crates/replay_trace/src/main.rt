@@ -2,13 +2,20 @@
 // holds, one for each event; left out, in the recorded order. DELAY is in milliseconds; left out, it is the usual one. Prints the end
 // tables and then the answers, or what is refused.
 #![tactic(auto)]
+
 use call_answers::ReplayAnswer;
 use program_delay::Delay;
 use program_input::{has_arg, read_arg};
 use std::rt::{Env, Files};
 
 // Both texts, or the refusal. The buffers hold the longest texts that there are: 512 lines of 115 bytes, and 256 of 28.
-fn print_replay<'a, R: Print + Eprint>(rt: &R, trace: &'a [u8], tables: &'a [u8], order: &[u8], delay: u32) {
+fn print_replay<'a, R: Print + Eprint>(
+    rt: &R,
+    trace: &'a [u8],
+    tables: &'a [u8],
+    order: &[u8],
+    delay: u32,
+) {
     let mut ends = [0u8; 65536];
     let mut answers = [0u8; 8192];
     let a = replay_call::replay(trace, tables, order, delay, &mut ends, &mut answers);
@@ -27,7 +34,8 @@ fn print_replay<'a, R: Print + Eprint>(rt: &R, trace: &'a [u8], tables: &'a [u8]
 // In the recorded order of a trace with so many lines.
 fn print_recorded<'a, R: Print + Eprint>(rt: &R, trace: &'a [u8], tables: &'a [u8], delay: u32) {
     let order = order_check::recorded_order();
-    print_replay(rt, 
+    print_replay(
+        rt,
         trace,
         tables,
         text_lines::front(&order, text_lines::count_lines(trace)),
@@ -36,7 +44,12 @@ fn print_recorded<'a, R: Print + Eprint>(rt: &R, trace: &'a [u8], tables: &'a [u
 }
 
 // In the order of the third file. One that is longer than any trace is as wrong as one of 257 bytes.
-fn print_ordered<'a, R: Env + Files + Print + Eprint>(rt: &R, trace: &'a [u8], tables: &'a [u8], delay: u32) {
+fn print_ordered<'a, R: Env + Files + Print + Eprint>(
+    rt: &R,
+    trace: &'a [u8],
+    tables: &'a [u8],
+    delay: u32,
+) {
     let mut buf = [0u8; 257];
     let order = read_arg(rt, 3, &mut buf);
     if order.ok {
@@ -45,7 +58,12 @@ fn print_ordered<'a, R: Env + Files + Print + Eprint>(rt: &R, trace: &'a [u8], t
     }
 }
 
-fn print_texts<'a, R: Env + Files + Print + Eprint>(rt: &R, trace: &'a [u8], tables: &'a [u8], delay: u32) {
+fn print_texts<'a, R: Env + Files + Print + Eprint>(
+    rt: &R,
+    trace: &'a [u8],
+    tables: &'a [u8],
+    delay: u32,
+) {
     if has_arg(rt, 3) {
         print_ordered(rt, trace, tables, delay);
     } else {

@@ -1,6 +1,7 @@
 // Normalises the table texts of its data files, and each accepted one again into a buffer that is a byte too short for it.
 // What must come out is in the file `stdout`.
 #![tactic(auto)]
+
 use call_answers::NormalAnswer;
 use std::rt::Files;
 

@@ -1,6 +1,7 @@
 // Reads the trace texts of its data files: the number of events, or the refusal with the refused line. What must come out is in the
 // file `stdout`.
 #![tactic(auto)]
+
 use program_delay::DELAY;
 use refusals::Outcome;
 use std::rt::Files;

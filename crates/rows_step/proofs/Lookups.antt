@@ -11,7 +11,7 @@ use lib.Dec.{eqb, ltb}
 use lib.ListN.{length}
 use borrow.Author.Tests.{ltb-true, ltb-false, eqb-true, eqb-false, lt-ltb, le-ltb, eq-eqb, ne_eqb}
 use Rattle.basics.proofs.Booleans.{split}
-use Rattle.flow_table.specs.FlowTable.{Table, admits, fitting, highest, at_priority, best}
+use Rattle.flow_table.specs.FlowTable.{Table, admits, fitting, highest, at_priority, first_at, best}
 use Rattle.rows.specs.Rows.{table_of, on_switch}
 use Rattle.rows_step.specs.Types.{Action, Packet, Entry, Answer, Row}
 use Rattle.rows_step.specs.Inner.{seen_at, seen, seen_rows}
@@ -26,8 +26,11 @@ unfolding best
 best_cons e t =
     split (ltb e.key.priority (highest t))
     (λ u. let h = ltb-true e.key.priority (highest t) u in
-    rw (u, max-eq_right {n = e.key.priority} {m = highest t} (omega arith), ne_eqb e.key.priority (highest t) (λ q. omega arith)) refl)
-    (λ u. rw (u, max-eq_left {n = e.key.priority} {m = highest t} (ltb-false e.key.priority (highest t) u), eq-eqb e.key.priority e.key.priority refl) refl)
+    at_highest (max-eq_right {n = e.key.priority} {m = highest t} (omega arith)) ∙ rw (u, ne_eqb e.key.priority (highest t) (λ q. omega arith)) refl)
+    (λ u. at_highest (max-eq_left {n = e.key.priority} {m = highest t} (ltb-false e.key.priority (highest t) u)) ∙ rw (u, eq-eqb e.key.priority e.key.priority refl) refl)
+  where
+    at_highest : {p : ℕ} → max e.key.priority (highest t) ≡ p → first_at (max e.key.priority (highest t)) (at_priority (max e.key.priority (highest t)) (e ∷ t)) ≡ first_at p (at_priority p (e ∷ t))
+    at_highest q = ap (λ p. first_at p (at_priority p (e ∷ t))) q
 
 -- what the pass makes of the rest of a table
 Rest : ℕ → ℕ → Action → Table → Type 0

@@ -9,4 +9,4 @@ pub returns : goal.returns
 unfolding result_line
 returns c =
     let p = put_then (put_then c.put_key_number-a.ensures.put c.put_key_number-b.ensures.put) (put_one _ 10 _ _ c.put_byte.ensures) in
-    (p, omega (arith, p.after, line_length_lem c.args.order c.args.result c.requires.1 c.ranges.res.fits))
+    record { put = p; upper_bound = omega (arith, p.after, line_length_lem c.args.order c.args.res c.requires.1 c.ranges.res.fits) }

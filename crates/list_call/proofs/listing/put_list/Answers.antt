@@ -24,4 +24,4 @@ pub copy_from_slice-requires : goal.copy_from_slice-requires
 copy_from_slice-requires c = list_fits _ _ c.list_of-counts.result _ c.list_of-counts.ensures _ (omega arith)
 
 pub returns : goal.returns
-returns c = list_done _ _ c.list_of-counts.result _ c.list_of-counts.ensures _ _ _ (omega arith) refl c.copy_from_slice.ensures.1
+returns c = list_done _ _ c.list_of-counts.result _ c.list_of-counts.ensures _ _ _ (omega arith) refl c.copy_from_slice.ensures.after

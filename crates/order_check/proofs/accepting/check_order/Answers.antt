@@ -19,10 +19,10 @@ returns-then-not-is_complete c = refuses_incomplete (bit c.args.rows.now) c.args
 -- the order that is searched is complete
 pub first_early-early-requires : goal.first_early-early-requires
 first_early-early-requires c =
-    let order = (complete_iff c.args.n c.args.order.now).0 (sym c.is_complete.ensures ∙ not-false _ c.if-not-is_complete.false-raw) in (
-      (record { size = refl; full = λ i l. order.full i (omega (arith, order.size)) }, omega (arith, order.size, c.requires.0)),
-      λ i j e. omega (arith, order.size, c.requires.1 i j e),
-    )
+    let order = (complete_iff c.args.n c.args.order.now).0 (sym c.is_complete.ensures ∙ not-false _ c.if-not-is_complete.false-raw) in record {
+      order_of = (record { size = refl; full = λ i l. order.full i (omega (arith, order.size)) }, omega (arith, order.size, c.requires.0));
+      by_index = λ i j e. omega (arith, order.size, c.requires.1 i j e);
+    }
 
 pub returns-in-At : goal.returns-in-At
 returns-in-At c =

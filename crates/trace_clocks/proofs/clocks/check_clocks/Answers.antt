@@ -27,7 +27,7 @@ loop-i-preserved c =
     let kept = rw (← next) at c.loop-i.invariant.2 in
     let passed = rw (← next) at c.loop-i.invariant.3 in
     let line : c.side-line.result ≡ side_at (events_of c.args.t) i = c.side-line.ensures ∙ ap (λ (e : Event). side_of e.head e.operation) (sym (event_at_lem c.args.t i (omega arith))) in
-    let range : c.side-line.result.from < 4294967296 = omega (arith, c.side-line.type-inv) in (
+    let range : c.side-line.result.from < 4294967296 = omega (arith, c.side-line.type_inv) in (
       omega arith,
       c.loop-i.invariant.1,
       kept_more _ _ i here line kept c.with_line-later.ensures,

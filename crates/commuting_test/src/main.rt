@@ -1,10 +1,11 @@
 // The verdict on each cell of document 01's table of commuting pairs, both ways round and on both sides of its condition.
 // What must come out is in the file `stdout`.
 #![tactic(auto)]
+
 use commuting::Footprint;
 use flow::{Action, Entry, Exact, Key, Match, Packet, Prefix};
 use flow_table::{Origin, TableOperation, table_effect};
-use libc::STDOUT_FILENO;
+use std::io;
 
 // A pair a line, a digit each: word, match, priority and port of the one, then of the other. The words from 0 on are pkt, add,
 // addc, mods, modn, dels, deln.
@@ -176,80 +177,82 @@ fn operation(digits: u32) -> TableOperation {
     }
 }
 
-fn say(text: &[u8]) {
-    if !io::write_all(STDOUT_FILENO, text) {
-        os::fail(b"standard output");
+fn is_said<R: Eprint>(rt: &R, said: io::Result<()>) {
+    if let Err(e) = said {
+        let _ = eprintln!(rt; "standard output: {e}");
     }
 }
 
-fn say_word(word: u8) {
+fn say<R: Print + Eprint>(rt: &R, text: &[u8]) {
+    is_said(rt, rt.write_all(text));
+}
+
+fn say_word<R: Print + Eprint>(rt: &R, word: u8) {
     match word {
-        0 => say(b"pkt"),
-        1 => say(b"add"),
-        2 => say(b"addc"),
-        3 => say(b"mods"),
-        4 => say(b"modn"),
-        5 => say(b"dels"),
-        _ => say(b"deln"),
+        0 => say(rt, b"pkt"),
+        1 => say(rt, b"add"),
+        2 => say(rt, b"addc"),
+        3 => say(rt, b"mods"),
+        4 => say(rt, b"modn"),
+        5 => say(rt, b"dels"),
+        _ => say(rt, b"deln"),
     }
 }
 
-fn say_match(m: u8) {
+fn say_match<R: Print + Eprint>(rt: &R, m: u8) {
     match m {
-        0 => say(b" A"),
-        1 => say(b" B"),
-        2 => say(b" D"),
-        _ => say(b" N"),
+        0 => say(rt, b" A"),
+        1 => say(rt, b" B"),
+        2 => say(rt, b" D"),
+        _ => say(rt, b" N"),
     }
 }
 
-fn say_number(before: &[u8], n: u8) {
-    say(before);
-    let mut digits = [0u8; 20];
-    let k = io::decimal(n as u64, &mut digits);
-    say(&digits[..k]);
+fn say_number<R: Print + Eprint>(rt: &R, before: &[u8], n: u8) {
+    say(rt, before);
+    is_said(rt, rt.print(n));
 }
 
 // The operation with the fields that it has.
-fn say_operation(digits: u32) {
+fn say_operation<R: Print + Eprint>(rt: &R, digits: u32) {
     let word = digit(digits / 4096);
-    say_word(word);
-    say_match(digit(digits / 256));
+    say_word(rt, word);
+    say_match(rt, digit(digits / 256));
     if 0 < word {
         if word < 6 {
-            say_number(b" ", digit(digits / 16));
+            say_number(rt, b" ", digit(digits / 16));
         }
         if word < 5 {
-            say_number(b" p", digit(digits));
+            say_number(rt, b" p", digit(digits));
         }
     }
 }
 
-fn verdict(yes: bool) {
+fn verdict<R: Print + Eprint>(rt: &R, yes: bool) {
     if yes {
-        say(b" yes");
+        say(rt, b" yes");
     } else {
-        say(b" no");
+        say(rt, b" no");
     }
 }
 
 // The pair, and the verdict both ways round.
-fn pair(digits: u32) {
+fn pair<R: Print + Eprint>(rt: &R, digits: u32) {
     let one = digits / 65536;
     let other = digits % 65536;
     let v = Footprint::of(table_effect(operation(one)));
     let w = Footprint::of(table_effect(operation(other)));
-    say_operation(one);
-    say(b", ");
-    say_operation(other);
-    say(b":");
-    verdict(commuting_pairs::commutes(v, w));
-    verdict(commuting_pairs::commutes(w, v));
-    say(b"\n");
+    say_operation(rt, one);
+    say(rt, b", ");
+    say_operation(rt, other);
+    say(rt, b":");
+    verdict(rt, commuting_pairs::commutes(v, w));
+    verdict(rt, commuting_pairs::commutes(w, v));
+    say(rt, b"\n");
 }
 
-fn main() {
+fn main(rt: HostRuntime) {
     for at in 0..100 {
-        pair(PAIRS[at]);
+        pair(&rt, PAIRS[at]);
     }
 }

@@ -1,10 +1,10 @@
 // Vectors for matches and table order: document 01's examples of addresses, the masks of all lengths, each pair of the
 // matches below, and each packet against each match. What must come out is in the file `stdout`.
 #![tactic(auto)]
+
 ghost use Rattle.std.specs.Prelude.{◌<◌};
 
 use flow::{Action, Exact, Key, Match, Ordering, Packet, Prefix};
-use libc::STDOUT_FILENO;
 
 // A match a row: port, vlan, source address and length, destination address and length, proto, sport, dport; 65536 stands for `*`.
 const MATCHES: [[u32; 9]; 31] = [
@@ -70,96 +70,113 @@ fn sample(i: usize) -> Match
     }
 }
 
-fn say(text: &[u8]) {
-    if !io::write_all(STDOUT_FILENO, text) {
-        os::fail(b"standard output");
+fn say<R: Print + Eprint>(rt: &R, text: &[u8]) {
+    if let Err(e) = rt.write_all(text) {
+        let _ = eprintln!(rt; "standard output: {e}");
     }
 }
 
-fn end_line() {
-    say(b"\n");
+fn end_line<R: Print + Eprint>(rt: &R) {
+    say(rt, b"\n");
 }
 
-fn say_if(ok: bool, yes: &[u8], no: &[u8]) {
+fn say_if<R: Print + Eprint>(rt: &R, ok: bool, yes: &[u8], no: &[u8]) {
     if ok {
-        say(yes);
+        say(rt, yes);
     } else {
-        say(no);
+        say(rt, no);
     }
 }
 
-fn say_order(o: Ordering) {
+fn say_order<R: Print + Eprint>(rt: &R, o: Ordering) {
     match o {
-        Ordering::Less => say(b"<"),
-        Ordering::Equal => say(b"="),
-        Ordering::Greater => say(b">"),
+        Ordering::Less => say(rt, b"<"),
+        Ordering::Equal => say(rt, b"="),
+        Ordering::Greater => say(rt, b">"),
     }
 }
 
 // Overlap, within and order of two matches: `ow<`, with `.` for no.
-fn pair(m: Match, n: Match) {
-    say_if(m.overlaps(n), b" o", b" .");
-    say_if(m.within(n), b"w", b".");
-    say_order(m.order(n));
+fn pair<R: Print + Eprint>(rt: &R, m: Match, n: Match) {
+    say_if(rt, m.overlaps(n), b" o", b" .");
+    say_if(rt, m.within(n), b"w", b".");
+    say_order(rt, m.order(n));
 }
 
-fn row(i: usize)
+fn row<R: Print + Eprint>(rt: &R, i: usize)
     requires { i < 31 }
 {
     let m = sample(i);
     for j in 0..31 {
-        pair(m, sample(j));
+        pair(rt, m, sample(j));
     }
-    end_line();
+    end_line(rt);
 }
 
-fn cell(m: Match, p: Packet) {
-    say_if(m.fits(p), b"x", b".");
+fn cell<R: Print + Eprint>(rt: &R, m: Match, p: Packet) {
+    say_if(rt, m.fits(p), b"x", b".");
 }
 
 // Which of the matches a packet fits.
-fn packet(p: Packet) {
+fn packet<R: Print + Eprint>(rt: &R, p: Packet) {
     for i in 0..31 {
         let m = sample(i);
-        cell(m, p);
+        cell(rt, m, p);
     }
-    end_line();
+    end_line(rt);
 }
 
-fn sent(port: u16, vlan: u16, src: u32, dst: u32, proto: u16, sport: u16, dport: u16) {
-    packet(Packet {
-        port,
-        vlan,
-        src,
-        dst,
-        proto,
-        sport,
-        dport,
-    });
+fn sent<R: Print + Eprint>(
+    rt: &R,
+    port: u16,
+    vlan: u16,
+    src: u32,
+    dst: u32,
+    proto: u16,
+    sport: u16,
+    dport: u16,
+) {
+    packet(
+        rt,
+        Packet {
+            port,
+            vlan,
+            src,
+            dst,
+            proto,
+            sport,
+            dport,
+        },
+    );
 }
 
-fn address(name: &[u8], value: u32, length: u8) {
+fn address<R: Print + Eprint>(rt: &R, name: &[u8], value: u32, length: u8) {
     let p = Prefix { value, length };
-    say(name);
-    say_if(p.is_clear(), b" passes\n", b" has a bit past its length\n");
+    say(rt, name);
+    say_if(
+        rt,
+        p.is_clear(),
+        b" passes\n",
+        b" has a bit past its length\n",
+    );
 }
 
 // The mask of a length, as 8 hexadecimal digits.
-fn say_mask(length: u8) {
+fn say_mask<R: Print + Eprint>(rt: &R, length: u8) {
     let mut digits: [u8; 8] = [0; 8];
     text_numbers::put_hex(&mut digits, 0, flow::prefix::mask(length));
-    say(&digits);
-    end_line();
+    say(rt, &digits);
+    end_line(rt);
 }
 
-fn masks() {
+fn masks<R: Print + Eprint>(rt: &R) {
     for length in 0..33 {
-        say_mask(length);
+        say_mask(rt, length);
     }
 }
 
 // Two keys by priority and match.
-fn keys(p: u16, i: usize, q: u16, j: usize)
+fn keys<R: Print + Eprint>(rt: &R, p: u16, i: usize, q: u16, j: usize)
     requires { (i < 31) × (j < 31) }
 {
     let k = Key {
@@ -170,49 +187,49 @@ fn keys(p: u16, i: usize, q: u16, j: usize)
         priority: q,
         pattern: sample(j),
     };
-    say_order(k.order(l));
-    say_if(k.same(l), b" same\n", b" differ\n");
+    say_order(rt, k.order(l));
+    say_if(rt, k.same(l), b" same\n", b" differ\n");
 }
 
-fn actions(a: Action, b: Action) {
-    say_if(a.same(b), b"same\n", b"differ\n");
+fn actions<R: Print + Eprint>(rt: &R, a: Action, b: Action) {
+    say_if(rt, a.same(b), b"same\n", b"differ\n");
 }
 
-fn rows() {
+fn rows<R: Print + Eprint>(rt: &R) {
     for i in 0..31 {
-        row(i);
+        row(rt, i);
     }
 }
 
-fn main() {
-    address(b"0a000002/31", 0x0a000002, 31);
-    address(b"0a000001/31", 0x0a000001, 31);
-    address(b"00000000/0", 0, 0);
-    address(b"80000000/0", 0x80000000, 0);
-    address(b"80000000/1", 0x80000000, 1);
-    address(b"40000000/1", 0x40000000, 1);
-    address(b"ffffffff/32", 0xffffffff, 32);
-    masks();
-    rows();
-    sent(1, 1, 0x0a000003, 0x0a010003, 6, 65535, 80);
-    sent(0, 0, 0x00000000, 0x00000000, 0, 0, 0);
-    sent(65535, 4095, 0xffffffff, 0xffffffff, 255, 65535, 65535);
-    sent(2, 2, 0x0a000002, 0x0a01ffff, 17, 1, 81);
-    keys(10, 0, 5, 0);
-    keys(5, 0, 10, 0);
-    keys(5, 0, 5, 0);
-    keys(5, 1, 5, 0);
-    keys(5, 0, 5, 1);
-    keys(10, 3, 5, 0);
-    keys(0, 2, 65535, 2);
-    keys(7, 13, 7, 13);
-    keys(5, 26, 5, 27);
-    actions(Action::Drop, Action::Drop);
-    actions(Action::Drop, Action::Controller);
-    actions(Action::Controller, Action::Controller);
-    actions(Action::Controller, Action::Port(0));
-    actions(Action::Port(0), Action::Drop);
-    actions(Action::Port(1), Action::Port(1));
-    actions(Action::Port(1), Action::Port(2));
-    actions(Action::Port(65535), Action::Port(65535));
+fn main(rt: HostRuntime) {
+    address(&rt, b"0a000002/31", 0x0a000002, 31);
+    address(&rt, b"0a000001/31", 0x0a000001, 31);
+    address(&rt, b"00000000/0", 0, 0);
+    address(&rt, b"80000000/0", 0x80000000, 0);
+    address(&rt, b"80000000/1", 0x80000000, 1);
+    address(&rt, b"40000000/1", 0x40000000, 1);
+    address(&rt, b"ffffffff/32", 0xffffffff, 32);
+    masks(&rt);
+    rows(&rt);
+    sent(&rt, 1, 1, 0x0a000003, 0x0a010003, 6, 65535, 80);
+    sent(&rt, 0, 0, 0x00000000, 0x00000000, 0, 0, 0);
+    sent(&rt, 65535, 4095, 0xffffffff, 0xffffffff, 255, 65535, 65535);
+    sent(&rt, 2, 2, 0x0a000002, 0x0a01ffff, 17, 1, 81);
+    keys(&rt, 10, 0, 5, 0);
+    keys(&rt, 5, 0, 10, 0);
+    keys(&rt, 5, 0, 5, 0);
+    keys(&rt, 5, 1, 5, 0);
+    keys(&rt, 5, 0, 5, 1);
+    keys(&rt, 10, 3, 5, 0);
+    keys(&rt, 0, 2, 65535, 2);
+    keys(&rt, 7, 13, 7, 13);
+    keys(&rt, 5, 26, 5, 27);
+    actions(&rt, Action::Drop, Action::Drop);
+    actions(&rt, Action::Drop, Action::Controller);
+    actions(&rt, Action::Controller, Action::Controller);
+    actions(&rt, Action::Controller, Action::Port(0));
+    actions(&rt, Action::Port(0), Action::Drop);
+    actions(&rt, Action::Port(1), Action::Port(1));
+    actions(&rt, Action::Port(1), Action::Port(2));
+    actions(&rt, Action::Port(65535), Action::Port(65535));
 }

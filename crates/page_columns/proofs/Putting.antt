@@ -57,13 +57,8 @@ pub number_put : (w v : ℕ) {text : List ℕ} {at n : ℕ} {xs zs : List ℕ} �
 number_put w v {at = at} {n} {xs} {zs} e p = subst (λ (t : List ℕ). Put (right w t) at xs n zs) e p
 
 -- ---- a text copied into the part of a buffer from a place on
-pub block_put : (text xs : List ℕ) {at : ℕ} {ys : List ℕ} → at + length text ≤ length xs → ys ≡ take (length text) text ++ drop (length text) (mid_of at (length xs - at) xs)
-    → Put text at xs (at + length text) (put_mid at (length xs - at) xs ys)
+pub block_put : (text xs : List ℕ) {at : ℕ} {ys : List ℕ} → at + length text ≤ length xs → ys ≡ text
+    → Put text at xs (at + length text) (put_mid at ((at + length text) - at) xs ys)
 block_put text xs {at} h y =
-    let mid : mid_of at (length xs - at) xs ≡ drop at xs = take_all (length xs - at) (drop at xs) (simp length-drop (omega arith)) in
-    let full : length xs ≤ length xs = omega arith in
-    let post : post_of at (length xs - at) xs ≡ [] = Post-is at (length xs) xs (omega arith) ∙ drop_of_length-le xs full in
-    record {
-      after = refl;
-      bytes = rw (post, append-nil, y, mid, take-length text, drop-drop) (sym (sets-eq text xs at h ∙ append_assoc (take at xs) text (drop (at + length text) xs)));
-    }
+    let post : post_of at ((at + length text) - at) xs ≡ drop (at + length text) xs = Post-is at (at + length text) xs (omega arith) in
+    record { after = refl; bytes = rw (post, y) (sym (sets-eq text xs at h ∙ append_assoc (take at xs) text (drop (at + length text) xs))) }

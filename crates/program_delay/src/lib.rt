@@ -1,10 +1,12 @@
 // The delay that a program calls with, in milliseconds: the one that an argument gives, or the usual one.
 #![tactic(auto)]
+
 ghost use Rattle.std.specs.Prelude.{◌≡◌};
 ghost use Rattle.program_delay.specs.Delays.{delay_of};
 ghost use Rattle.program_delay.specs.Inner.{as_delay};
 
-use libc::STDERR_FILENO;
+use std::env::FillError;
+use std::rt::Env;
 use text_numbers::Long;
 
 // Where no argument gives another.
@@ -30,24 +32,21 @@ pub fn delay_in(text: &[u8]) -> Delay
     Delay::Bad
 }
 
-// The delay of an argument. One that is longer than any delay is read as an empty one, which gives none either.
-fn given_by(i: usize) -> Delay {
+// The delay of an argument, or the usual one where it is left out. One that is longer than any delay gives none.
+fn given_by<R: Env>(rt: &R, i: usize) -> Delay {
     let mut text = [0u8; 10];
-    let n = os::arg(i, &mut text);
-    delay_in(&text[..n])
+    match rt.arg(i, &mut text) {
+        Ok(n) => delay_in(&text[..n]),
+        Err(FillError::NotPresent) => Delay::Given(DELAY),
+        Err(FillError::TooLong) => Delay::Bad,
+    }
 }
 
 // The delay of an argument, or the usual one where it is left out; where it gives none, says so on standard error.
-pub fn delay_arg(i: usize) -> Delay {
-    if os::arg_count() <= i {
-        return Delay::Given(DELAY);
-    }
-    let delay = given_by(i);
+pub fn delay_arg<R: Env + Eprint>(rt: &R, i: usize) -> Delay {
+    let delay = given_by(rt, i);
     if let Delay::Bad = delay {
-        io::write_all(
-            STDERR_FILENO,
-            b"delay not a decimal number without leading zeros up to 4294967295\n",
-        );
+        let _ = rt.eprintln("delay not a decimal number without leading zeros up to 4294967295");
     }
     delay
 }

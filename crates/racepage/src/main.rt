@@ -1,5 +1,6 @@
 // Reads a trace from standard input, and writes the page of its list, or what is refused, to standard output.
 #![tactic(auto)]
+
 ghost use Rattle.std.specs.Prelude.{◌≡◌, length};
 ghost use Rattle.basics.specs.Text.{zeros};
 
@@ -13,24 +14,24 @@ fn page_room() -> [u8; 1991284]
     [0u8; 1991284]
 }
 
-fn answer(trace: &[u8]) {
+fn answer<R: Print + Eprint>(rt: &R, trace: &[u8]) {
     let mut out = page_room();
     let a = page_call::page(trace, DELAY, &mut out);
     match a {
         PageAnswer::Length(n) => {
-            program_output::write(text_lines::front(&out, n));
+            program_output::write(rt, text_lines::front(&out, n));
         }
         PageAnswer::Refused(e) => {
-            program_output::write_refused(trace, b"", e);
+            program_output::write_refused(rt, trace, b"", e);
         }
     }
 }
 
-fn main() {
-    let mut buf = io::large_buffer();
-    let input = program_input::read_input(b"usage: racepage < TRACE\n", &mut buf);
+fn main(rt: HostRuntime) {
+    let mut buf = [0u8; 65536];
+    let input = program_input::read_input(&rt, b"usage: racepage < TRACE\n", &mut buf);
     if input.ok {
         let n = input.len;
-        answer(&buf[..n]);
+        answer(&rt, &buf[..n]);
     }
 }

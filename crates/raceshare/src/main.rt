@@ -1,27 +1,28 @@
 // Reads a trace from standard input, and writes how many of its unordered pairs commute, or what is refused, to standard output.
 #![tactic(auto)]
+
 use call_answers::ShareAnswer;
 use program_delay::DELAY;
 
-fn answer(trace: &[u8]) {
+fn answer<R: Print + Eprint>(rt: &R, trace: &[u8]) {
     let a = share_call::share(trace, DELAY);
     match a {
         ShareAnswer::Share(x) => {
             let mut out = [0u8; 109];
             let n = share_report::put_share(&mut out, x);
-            program_output::write(text_lines::front(&out, n));
+            program_output::write(rt, text_lines::front(&out, n));
         }
         ShareAnswer::Refused(e) => {
-            program_output::write_refused(trace, b"", e);
+            program_output::write_refused(rt, trace, b"", e);
         }
     }
 }
 
-fn main() {
-    let mut buf = io::large_buffer();
-    let input = program_input::read_input(b"usage: raceshare < TRACE\n", &mut buf);
+fn main(rt: HostRuntime) {
+    let mut buf = [0u8; 65536];
+    let input = program_input::read_input(&rt, b"usage: raceshare < TRACE\n", &mut buf);
     if input.ok {
         let n = input.len;
-        answer(&buf[..n]);
+        answer(&rt, &buf[..n]);
     }
 }

@@ -2,12 +2,13 @@
 // holds the orders end to end, a byte for each event. DELAY is in milliseconds; left out, it is the usual one. Prints a line for each
 // order, or what is refused.
 #![tactic(auto)]
+
 ghost use Rattle.std.specs.Prelude.{◌≡◌, ◌+◌, ◌≤◌, ◌<◌, length};
 
 use call_answers::TrialsAnswer;
-use libc::STDERR_FILENO;
 use program_delay::Delay;
-use program_input::read_arg;
+use program_input::{has_arg, read_arg};
+use std::rt::{Env, Files};
 
 // Room for the orders, and for the byte that tells that there are more.
 fn order_room() -> [u8; 1048577]
@@ -39,7 +40,7 @@ fn part_end(from: usize, all: usize) -> usize
 }
 
 // The lines of all results, in parts of 4,096; none after one that can't be written.
-fn print_results(results: &[u8])
+fn print_results<R: Print + Eprint>(rt: &R, results: &[u8])
     requires { length results.now ≤ 1048576 }
 {
     let mut text = line_room();
@@ -47,64 +48,71 @@ fn print_results(results: &[u8])
     while from < results.len() {
         let to = part_end(from, results.len());
         let n = trials_report::put_results(&mut text, from, &results[from..to]);
-        if !program_output::write(text_lines::front(&text, n)) {
+        if !program_output::write(rt, text_lines::front(&text, n)) {
             return;
         }
         from = to;
     }
 }
 
-fn print_tried<'a>(trace: &'a [u8], tables: &'a [u8], orders: &[u8], delay: u32) {
+fn print_tried<'a, R: Print + Eprint>(
+    rt: &R,
+    trace: &'a [u8],
+    tables: &'a [u8],
+    orders: &[u8],
+    delay: u32,
+) {
     let mut results = result_room();
     let a = trials_call::try_orders(trace, tables, orders, delay, &mut results);
     match a {
         TrialsAnswer::Orders(n) => {
-            print_results(text_lines::front(&results, n));
+            print_results(rt, text_lines::front(&results, n));
         }
         TrialsAnswer::Refused(e) => {
-            program_output::write_refused(trace, tables, e);
+            program_output::write_refused(rt, trace, tables, e);
         }
     }
 }
 
 // With the orders of the third file.
-fn try_file<'a>(trace: &'a [u8], tables: &'a [u8], delay: u32) {
+fn try_file<'a, R: Env + Files + Print + Eprint>(
+    rt: &R,
+    trace: &'a [u8],
+    tables: &'a [u8],
+    delay: u32,
+) {
     let mut buf = order_room();
-    let orders = read_arg(3, &mut buf);
+    let orders = read_arg(rt, 3, &mut buf);
     if !orders.ok {
         return;
     }
     let n = orders.len;
     if 1048576 < n {
-        io::write_all(STDERR_FILENO, b"orders over 1048576 bytes\n");
+        let _ = rt.eprintln("orders over 1048576 bytes");
         return;
     }
-    print_tried(trace, tables, &buf[..n], delay);
+    print_tried(rt, trace, tables, &buf[..n], delay);
 }
 
-fn main() {
-    let arguments = os::arg_count();
-    if (arguments < 4) | (5 < arguments) {
-        io::write_all(
-            STDERR_FILENO,
-            b"usage: replay_orders TRACE TABLES ORDERS [DELAY]\n",
-        );
+fn main(rt: HostRuntime) {
+    if !has_arg(&rt, 3) || has_arg(&rt, 5) {
+        let _ = rt.eprintln("usage: replay_orders TRACE TABLES ORDERS [DELAY]");
         return;
     }
-    let Delay::Given(delay) = program_delay::delay_arg(4) else {
+    let Delay::Given(delay) = program_delay::delay_arg(&rt, 4) else {
         return;
     };
-    let mut trace = io::large_buffer();
-    let mut tables = io::large_buffer();
-    let first = read_arg(1, &mut trace);
+    let mut trace = [0u8; 65536];
+    let mut tables = [0u8; 65536];
+    let first = read_arg(&rt, 1, &mut trace);
     if !first.ok {
         return;
     }
-    let second = read_arg(2, &mut tables);
+    let second = read_arg(&rt, 2, &mut tables);
     if !second.ok {
         return;
     }
     let n = first.len;
     let m = second.len;
-    try_file(&trace[..n], &tables[..m], delay);
+    try_file(&rt, &trace[..n], &tables[..m], delay);
 }

@@ -3,12 +3,14 @@
 // its own; `small` all 120 orders of five events, and orders that are none; `pout` all 24 orders of a rule, a barrier and two
 // packets; `clock` all 24 orders of four events that clocks order in part; `full` 256 events on 256 entries.
 #![tactic(auto)]
+
 use call_answers::ReplayAnswer;
 use program_delay::DELAY;
-use program_input::Input;
+use std::rt::Files;
 
 // An answer: both texts, or the refusal.
-fn print_answer<'a>(
+fn print_answer<'a, R: Print + Eprint>(
+    rt: &R,
     trace: &'a [u8],
     tables: &'a [u8],
     a: ReplayAnswer,
@@ -17,20 +19,20 @@ fn print_answer<'a>(
 ) {
     match a {
         ReplayAnswer::Lengths(n, m) => {
-            program_output::write(text_lines::front(ends, n));
-            program_output::write(text_lines::front(answers, m));
+            program_output::write(rt, text_lines::front(ends, n));
+            program_output::write(rt, text_lines::front(answers, m));
         }
         ReplayAnswer::Refused(e) => {
-            program_output::write_refused(trace, tables, e);
+            program_output::write_refused(rt, trace, tables, e);
         }
     }
 }
 
-fn replay_order<'a>(trace: &'a [u8], tables: &'a [u8], order: &[u8]) {
-    let mut ends = io::large_buffer();
+fn replay_order<'a, R: Print + Eprint>(rt: &R, trace: &'a [u8], tables: &'a [u8], order: &[u8]) {
+    let mut ends = [0u8; 65536];
     let mut answers = [0u8; 8192];
     let a = replay_call::replay(trace, tables, order, DELAY, &mut ends, &mut answers);
-    print_answer(trace, tables, a, &ends, &answers);
+    print_answer(rt, trace, tables, a, &ends, &answers);
 }
 
 fn wide(x: u8) -> u64 {
@@ -38,7 +40,8 @@ fn wide(x: u8) -> u64 {
 }
 
 // Into both buffers, and then the first byte of the tables buffer.
-fn replay_within<'a>(
+fn replay_within<'a, R: Print + Eprint>(
+    rt: &R,
     trace: &'a [u8],
     tables: &'a [u8],
     order: &[u8],
@@ -46,91 +49,127 @@ fn replay_within<'a>(
     answers: &mut [u8],
 ) {
     let a = replay_call::replay(trace, tables, order, DELAY, ends, answers);
-    print_answer(trace, tables, a, ends, answers);
+    print_answer(rt, trace, tables, a, ends, answers);
     if 0 < ends.len() {
-        program_output::field(b"first=", wide(ends[0]));
-        program_output::end_line();
+        program_output::field(rt, b"first=", wide(ends[0]));
+        program_output::end_line(rt);
     }
 }
 
 // Into buffers of these lengths.
-fn replay_short<'a>(trace: &'a [u8], tables: &'a [u8], order: &[u8], n: usize, m: usize) {
-    let mut ends = io::large_buffer();
+fn replay_short<'a, R: Print + Eprint>(
+    rt: &R,
+    trace: &'a [u8],
+    tables: &'a [u8],
+    order: &[u8],
+    n: usize,
+    m: usize,
+) {
+    let mut ends = [0u8; 65536];
     let mut answers = [0u8; 8192];
     if n <= 65536 {
         if m <= 8192 {
-            replay_within(trace, tables, order, &mut ends[..n], &mut answers[..m]);
+            replay_within(rt, trace, tables, order, &mut ends[..n], &mut answers[..m]);
         }
     }
 }
 
 // Into a tables buffer and then into an answers buffer that is a byte too short.
-fn replay_shorter<'a>(trace: &'a [u8], tables: &'a [u8], order: &[u8]) {
-    let mut ends = io::large_buffer();
+fn replay_shorter<'a, R: Print + Eprint>(rt: &R, trace: &'a [u8], tables: &'a [u8], order: &[u8]) {
+    let mut ends = [0u8; 65536];
     let mut answers = [0u8; 8192];
     let a = replay_call::replay(trace, tables, order, DELAY, &mut ends, &mut answers);
     match a {
         ReplayAnswer::Lengths(n, m) => {
             if 0 < n {
-                replay_short(trace, tables, order, n - 1, m);
+                replay_short(rt, trace, tables, order, n - 1, m);
             }
             if 0 < m {
-                replay_short(trace, tables, order, n, m - 1);
+                replay_short(rt, trace, tables, order, n, m - 1);
             }
         }
         ReplayAnswer::Refused(_) => {}
     }
 }
 
-fn replay_recorded<'a>(trace: &'a [u8], tables: &'a [u8]) {
+fn replay_recorded<'a, R: Print + Eprint>(rt: &R, trace: &'a [u8], tables: &'a [u8]) {
     let order = order_check::recorded_order();
     let recorded = text_lines::front(&order, text_lines::count_lines(trace));
-    program_output::write(b"order recorded\n");
-    replay_order(trace, tables, recorded);
-    replay_shorter(trace, tables, recorded);
+    program_output::write(rt, b"order recorded\n");
+    replay_order(rt, trace, tables, recorded);
+    replay_shorter(rt, trace, tables, recorded);
 }
 
-fn replay_line<'a>(trace: &'a [u8], tables: &'a [u8], orders: &[u8], k: usize) {
-    program_output::field(b"order ", k as u64);
-    program_output::end_line();
-    replay_order(trace, tables, text_lines::nth_line(orders, k));
+fn replay_line<'a, R: Print + Eprint>(
+    rt: &R,
+    trace: &'a [u8],
+    tables: &'a [u8],
+    orders: &[u8],
+    k: usize,
+) {
+    program_output::field(rt, b"order ", k as u64);
+    program_output::end_line(rt);
+    replay_order(rt, trace, tables, text_lines::nth_line(orders, k));
 }
 
-fn replay_lines<'a>(trace: &'a [u8], tables: &'a [u8], orders: &[u8]) {
+fn replay_lines<'a, R: Print + Eprint>(rt: &R, trace: &'a [u8], tables: &'a [u8], orders: &[u8]) {
     for k in 0..text_lines::count_lines(orders) {
-        replay_line(trace, tables, orders, k);
+        replay_line(rt, trace, tables, orders, k);
     }
 }
 
-fn replay_texts<'a>(trace: &'a [u8], tables: &'a [u8], orders_name: &[u8]) {
-    let mut orders = io::buffer();
-    let read = program_input::read_file(orders_name, &mut orders);
+fn replay_texts<'a, R: Files + Print + Eprint>(
+    rt: &R,
+    trace: &'a [u8],
+    tables: &'a [u8],
+    orders_name: &[u8],
+) {
+    let mut orders = [0u8; 4096];
+    let read = program_input::read_file(rt, orders_name, &mut orders);
     if read.ok {
         let n = read.len;
-        replay_recorded(trace, tables);
-        replay_lines(trace, tables, &orders[..n]);
+        replay_recorded(rt, trace, tables);
+        replay_lines(rt, trace, tables, &orders[..n]);
     }
 }
 
-fn replay_files(name: &[u8], trace_name: &[u8], tables_name: &[u8], orders_name: &[u8]) {
-    program_output::write(b"trace ");
-    program_output::write(name);
-    program_output::end_line();
-    let mut trace = io::large_buffer();
-    let mut tables = io::large_buffer();
-    let first = program_input::read_file(trace_name, &mut trace);
-    let second = program_input::read_file(tables_name, &mut tables);
+fn replay_files<R: Files + Print + Eprint>(
+    rt: &R,
+    name: &[u8],
+    trace_name: &[u8],
+    tables_name: &[u8],
+    orders_name: &[u8],
+) {
+    program_output::write(rt, b"trace ");
+    program_output::write(rt, name);
+    program_output::end_line(rt);
+    let mut trace = [0u8; 65536];
+    let mut tables = [0u8; 65536];
+    let first = program_input::read_file(rt, trace_name, &mut trace);
+    let second = program_input::read_file(rt, tables_name, &mut tables);
     if first.ok & second.ok {
         let n = first.len;
         let m = second.len;
-        replay_texts(&trace[..n], &tables[..m], orders_name);
+        replay_texts(rt, &trace[..n], &tables[..m], orders_name);
     }
 }
 
-fn main() {
-    replay_files(b"ops", b"ops_trace", b"ops_tables", b"ops_orders");
-    replay_files(b"small", b"small_trace", b"small_tables", b"small_orders");
-    replay_files(b"pout", b"pout_trace", b"pout_tables", b"pout_orders");
-    replay_files(b"clock", b"clock_trace", b"clock_tables", b"clock_orders");
-    replay_files(b"full", b"full_trace", b"full_tables", b"full_orders");
+fn main(rt: HostRuntime) {
+    replay_files(&rt, b"ops", b"ops_trace", b"ops_tables", b"ops_orders");
+    replay_files(
+        &rt,
+        b"small",
+        b"small_trace",
+        b"small_tables",
+        b"small_orders",
+    );
+    replay_files(&rt, b"pout", b"pout_trace", b"pout_tables", b"pout_orders");
+    replay_files(
+        &rt,
+        b"clock",
+        b"clock_trace",
+        b"clock_tables",
+        b"clock_orders",
+    );
+    replay_files(&rt, b"full", b"full_trace", b"full_tables", b"full_orders");
 }

@@ -1,4 +1,3 @@
-use borrow.Author.Rules.{rules}
 use Rattle.text_numbers.specs.Inner.{as_long}
 use Rattle.text_numbers.proofs.Readers.{seen}
 use Rattle.program_delay.proofs.Theorems.{no_number, all_read, more_behind}

@@ -6,7 +6,7 @@ use borrow.Author.Rules.{rules}
 use Rattle.page_lines.proofs.put.put_packet.Goals as goal
 
 pub returns-in-Received : goal.returns-in-Received
-returns-in-Received c = record { put = (arm_put (λ (g : Origin). left 5 (switch_word_text (SwitchWord.Packet g))) c.in-Received.is c.put_left.ensures).0; upper_bound = (arm_put (λ (g : Origin). left 5 (switch_word_text (SwitchWord.Packet g))) c.in-Received.is c.put_left.ensures).1 }
+returns-in-Received c = record { put = arm_put (λ (g : Origin). left 5 (switch_word_text (SwitchWord.Packet g))) c.in-Received.is c.put_left.ensures.put; upper_bound = c.put_left.ensures.upper_bound }
 
 pub returns-in-SentOut : goal.returns-in-SentOut
-returns-in-SentOut c = record { put = (arm_put (λ (g : Origin). left 5 (switch_word_text (SwitchWord.Packet g))) c.in-SentOut.is c.put_left-in-SentOut.ensures).0; upper_bound = (arm_put (λ (g : Origin). left 5 (switch_word_text (SwitchWord.Packet g))) c.in-SentOut.is c.put_left-in-SentOut.ensures).1 }
+returns-in-SentOut c = record { put = arm_put (λ (g : Origin). left 5 (switch_word_text (SwitchWord.Packet g))) c.in-SentOut.is c.put_left-in-SentOut.ensures.put; upper_bound = c.put_left-in-SentOut.ensures.upper_bound }

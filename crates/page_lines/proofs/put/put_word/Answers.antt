@@ -6,7 +6,7 @@ use borrow.Author.Rules.{rules}
 use Rattle.page_lines.proofs.put.put_word.Goals as goal
 
 pub returns-in-Other : goal.returns-in-Other
-returns-in-Other c = record { put = (arm_put (λ (w : Word). left 5 (word_text w)) c.in-Other.is c.put_left.ensures).0; upper_bound = (arm_put (λ (w : Word). left 5 (word_text w)) c.in-Other.is c.put_left.ensures).1 }
+returns-in-Other c = record { put = arm_put (λ (w : Word). left 5 (word_text w)) c.in-Other.is c.put_left.ensures.put; upper_bound = c.put_left.ensures.upper_bound }
 
 pub returns-in-On : goal.returns-in-On
-returns-in-On c = record { put = (arm_put (λ (w : Word). left 5 (word_text w)) c.in-On.is c.put_switch_word.ensures).0; upper_bound = (arm_put (λ (w : Word). left 5 (word_text w)) c.in-On.is c.put_switch_word.ensures).1 }
+returns-in-On c = record { put = arm_put (λ (w : Word). left 5 (word_text w)) c.in-On.is c.put_switch_word.ensures.put; upper_bound = c.put_switch_word.ensures.upper_bound }

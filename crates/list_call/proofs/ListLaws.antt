@@ -4,7 +4,7 @@ use native.Mathlib.Omega.{arith}
 use mathlib.Core.Path.{◌≡◌, refl, sym, ap, ◌∙◌}
 use mathlib.Core.List.{List, ◌++◌}
 use lib.ListN.{length, take, drop}
-use lib.Seq.{length-take-le, take_all}
+use lib.Seq.{length-take-le}
 use Rattle.refusals.specs.Checks.{Checked, written}
 use Rattle.refusals.proofs.Checks.{on_refused, on_accepted, short_refused, short_passed}
 use Rattle.trace_events.specs.Events.{events_of}
@@ -30,15 +30,14 @@ module _ (delay : ℕ) (es : List Event) (c : Counts) (bytes : List ℕ) (h : Ho
         let t = short_refused (length old) (pair_bytes (list_of delay es)) Refusal.ListShort (omega (arith, needed_is)) in
         rw t (record { answer = ap (λ (n : ℕ). ListAnswer.Refused (Refusal.ListShort n)) needed_is; buffer = refl })
 
-    pub list_done : (src out : List ℕ) → 2 * c.listed ≤ length old → src ≡ take (2 * c.listed) bytes → out ≡ take (length src) src ++ drop (length src) old
+    pub list_done : (out : List ℕ) → 2 * c.listed ≤ length old → out ≡ take (2 * c.listed) bytes ++ drop (2 * c.listed) old
         → Lists (fitted delay es (length old)) (ListAnswer.Counts c) old out
     unfolding fitted listing_of
-    list_done src out m s o =
+    list_done out m o =
         let t = short_passed (length old) (pair_bytes (list_of delay es)) Refusal.ListShort (omega (arith, needed_is)) in
-        let w : src ≡ pair_bytes (list_of delay es) = s ∙ list_is delay es c bytes h in
         rw t (record {
           answer = ap ListAnswer.Counts (counts_are delay es c bytes h);
-          buffer = o ∙ ap (λ (x : List ℕ). x ++ drop (length src) old) (take_all (length src) src (omega arith)) ∙ ap (λ (x : List ℕ). starting_with x old) w;
+          buffer = o ∙ ap (λ (n : ℕ). take (2 * c.listed) bytes ++ drop n old) needed_is ∙ ap (λ (x : List ℕ). x ++ drop (length (pair_bytes (list_of delay es))) old) (list_is delay es c bytes h);
         })
 
 -- ---- the call on a text, by the outcome of reading it

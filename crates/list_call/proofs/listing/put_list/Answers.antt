@@ -1,8 +1,10 @@
 -- The list is made in a buffer of its own, so that nothing is written before its length is known.
 use native.Mathlib.Omega.{arith}
-use mathlib.Core.Path.{refl, sym}
+use Prim.Native.Nat.{ℕ, ◌*◌}
+use mathlib.Core.Path.{sym, ap, ◌∙◌}
+use mathlib.Core.List.{List, ◌++◌}
+use lib.ListN.{drop}
 use lib.Seq.{length-take-le}
-use Rattle.list_pairs.proofs.Made.{list_fits}
 use Rattle.list_call.proofs.ListLaws.{list_short, list_done}
 use borrow.Author.Rules.{rules}
 use Rattle.list_call.proofs.listing.put_list.Goals as goal
@@ -21,7 +23,9 @@ pub slice_bounds-copy_from_slice-end-3 : goal.slice_bounds-copy_from_slice-end-3
 slice_bounds-copy_from_slice-end-3 c = sym (length-take-le _ _ c.list_of-counts.ensures.within)
 
 pub copy_from_slice-requires : goal.copy_from_slice-requires
-copy_from_slice-requires c = list_fits _ _ c.list_of-counts.result _ c.list_of-counts.ensures _ (omega arith)
+copy_from_slice-requires c = length-take-le _ _ (omega arith) ∙ sym (length-take-le _ _ c.list_of-counts.ensures.within)
 
 pub returns : goal.returns
-returns c = list_done _ _ c.list_of-counts.result _ c.list_of-counts.ensures _ _ _ (omega arith) refl c.copy_from_slice.ensures.after
+returns c =
+    list_done _ _ c.list_of-counts.result _ c.list_of-counts.ensures _ _ (omega arith)
+    (ap (λ (x : List ℕ). x ++ drop (2 * c.list_of-counts.result.listed) c.args.out.now) c.copy_from_slice.ensures.after)

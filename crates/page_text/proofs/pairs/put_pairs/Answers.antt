@@ -16,11 +16,6 @@ use Rattle.page_text.proofs.Turns.{line_range, line_made}
 use borrow.Author.Rules.{rules}
 use Rattle.page_text.proofs.pairs.put_pairs.Goals as goal
 
--- The invariant: what was written and the lines of the rest are the whole.
--- each byte of the list is an event of the trace, and these are in range
-abbrev Inside : Trace → List ℕ → Type 0
-Inside t list = (t.len ≤ 256) × (length t.events ≡ 256) × ((k : ℕ) → k < length list → get_or list k 0 < t.len) × ((i : ℕ) → EventInRange (event_at (events_of t) i))
-
 pub loop-i-init : goal.loop-i-init
 loop-i-init c = (omega arith, omega arith, c.requires.len_bound.1, (c.requires.len_bound.0, search (rules, length_mapped), c.requires.by_index, c.requires.by_index_2), ([], put_none 0 _, refl))
 

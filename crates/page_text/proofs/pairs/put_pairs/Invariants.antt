@@ -17,6 +17,10 @@ use Rattle.page_text.proofs.Turns.{line_range, line_made}
 use borrow.Author.Rules.{rules}
 use Rattle.page_text.proofs.pairs.put_pairs.Given as goal
 
+-- each byte of the list is an event of the trace, and these are in range
+abbrev Inside : Trace → List ℕ → Type 0
+Inside t list = (t.len ≤ 256) × (length t.events ≡ 256) × ((k : ℕ) → k < length list → get_or list k 0 < t.len) × ((i : ℕ) → EventInRange (event_at (events_of t) i))
+
 abbrev pub invariant-loop-i : goal.invariant-loop-i
 invariant-loop-i l =
     (l.i ≤ length l.list) × (l.at ≤ 31 * l.i) × (length l.list ≤ 131072) × Inside l.t l.list

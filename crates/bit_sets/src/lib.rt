@@ -1,5 +1,6 @@
 // Sets of numbers below 512, as eight words of 64 bits.
 #![tactic(auto)]
+
 mod search;
 mod sets;
 

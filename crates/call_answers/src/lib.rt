@@ -1,5 +1,6 @@
 // What the calls answer, apart from their buffers.
 #![tactic(auto)]
+
 pub mod list;
 pub mod normal;
 pub mod page;

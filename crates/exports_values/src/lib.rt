@@ -1,5 +1,6 @@
 // What the calls for other programs answer, as numbers: a refusal is a number, a place and where the refused line stands.
 #![tactic(auto)]
+
 pub mod list; // the list of a trace
 pub mod normal; // the normal form of a table text
 pub mod page; // the page of a trace

@@ -2,9 +2,8 @@
 -- Assumes nothing.
 use mathlib.Core.Path.{◌≡◌, refl, sym, ◌∙◌}
 use mathlib.Core.Logic.{◌↔◌}
-use mathlib.Core.Bool.{true, ◌&&◌}
+use mathlib.Core.Bool.{true}
 use Prim.Native.Nat.{ℕ, ◌/◌, ◌-◌, ◌^◌, ◌<◌}
-use lib.Dec.{eqb}
 use borrow.Author.Tests.{eqb-true, eq-eqb}
 use Rattle.flow.specs.Types.{Exact, Prefix, Match, Packet}
 use Rattle.flow.specs.Matches.{exact_fits, prefix_fits, fits, MatchInRange, PacketInRange, Admits, HasPrefix, FitsAll}

@@ -1,6 +1,7 @@
 // Matches, keys, entries and packets: what a packet fits, when two matches overlap, when one lies within another, and the
 // order of a flow table.
 #![tactic(auto)]
+
 pub mod action;
 pub mod entry;
 pub mod exact;

@@ -1,17 +1,17 @@
 -- The tests of matches by words are those field by field: overlap, within, the same match; and a packet fits a match exactly if the
 -- match that it alone fits overlaps it. Assumes nothing.
-use mathlib.Core.Path.{◌≡◌, refl, sym, ap, ap₂, ◌∙◌}
+use mathlib.Core.Path.{◌≡◌, refl, sym, ap, ◌∙◌}
 use mathlib.Core.Bool.{Bool, true, false, ◌&&◌, true≢false}
-use Prim.Native.Nat.{ℕ, ◌+◌, ◌-◌, ◌*◌, ◌%◌, ◌^◌, ◌≤◌, ◌<◌}
+use Prim.Native.Nat.{ℕ, ◌+◌, ◌^◌, ◌<◌}
 use native.Mathlib.Nat.{mod-eq_of_lt}
 use native.Mathlib.Omega.{arith}
 use lib.Dec.{eqb}
 use lib.Bits.{bit_and, and_zero_r, and_mask, and_comm}
 use borrow.Author.Tests.{eq-eqb, ne_eqb, eqb-true}
 use Rattle.basics.proofs.Booleans.{both_ways, and_assoc, and-true, and_false_right}
-use Rattle.flow_bits.specs.Types.{Exact, Prefix, Match, Packet, Word, Bits}
+use Rattle.flow_bits.specs.Types.{Exact, Prefix, Match, Packet, Word}
 use Rattle.flow.specs.Matches.{exact_fits, exact_overlaps, exact_within, prefix_fits, prefix_overlaps, fits, overlaps, within, mask_of}
-use Rattle.flow.specs.Inner.{same_exact, same_prefix, same_match}
+use Rattle.flow.specs.Inner.{same_exact, same_match}
 use Rattle.flow_bits.specs.Inner.{word_overlaps, word_within, word_same, joined, InBits, exact_word, prefix_word, length_word, first_word, second_word, third_word, bits_of, bits_overlap, bits_within, bits_same, Narrow, exactly}
 use Rattle.flow.proofs.PrefixField.{nested}
 use Rattle.flow_bits.proofs.Joined.{joined_overlaps, joined_within, joined_same, joined_in_bits}

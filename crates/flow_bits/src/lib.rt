@@ -1,5 +1,6 @@
 // A match as words of bits: all its fields compared at once.
 #![tactic(auto)]
+
 pub mod matches; // matches, and packets as matches
 pub mod words; // words and their masks
 

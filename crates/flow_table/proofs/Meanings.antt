@@ -2,23 +2,23 @@
 -- table afterwards and which answer is given. Assumes nothing.
 use mathlib.Core.Path.{◌≡◌, refl, sym, ◌∙◌, ap, subst}
 use mathlib.Core.Logic.{◌↔◌, ◌⊎◌, inl, inr, ⊎_elim}
-use mathlib.Core.Bool.{Bool, true, false, ◌&&◌, ◌||◌, not, cond, or-true, true≢false, false≢true}
-use mathlib.Core.Option.{Option, none, some, some-injective}
+use mathlib.Core.Bool.{Bool, true, false, not, cond, or-true, true≢false, false≢true}
+use mathlib.Core.Option.{some, some-injective}
 use mathlib.Core.List.{List, [], ◌∷◌, Memᴰ}
-use Prim.Native.Nat.{ℕ, suc, max, ◌≤◌, ◌<◌}
+use Prim.Native.Nat.{ℕ, suc, ◌≤◌}
 use native.Mathlib.Omega.{arith}
 use lib.Dec.{eqb, ltb}
 use lib.ListN.{length}
-use borrow.Author.Tests.{eqb-true, eqb-false, eq-eqb, ne_eqb, ltb-true, ltb-false, not-false}
+use borrow.Author.Tests.{eqb-true, eqb-false, eq-eqb, ltb-true, ltb-false, not-false}
 use Rattle.basics.proofs.Booleans.{split, and_left, and_right, and_intro, or_cases}
 use Rattle.flow.proofs.Matches.{overlaps_iff, within_iff}
 use Rattle.flow.proofs.Entries.{same_eq, same_self, differ_of}
-use Rattle.flow.specs.Matches.{fits, overlaps, within, MatchInRange}
+use Rattle.flow.specs.Matches.{overlaps, MatchInRange}
 use Rattle.flow.specs.Entries.{same_key, KeyInRange, EntryInRange}
 use Rattle.flow_table.specs.Types.{Match, Packet, Action, Key, Entry, Answer, Effect}
 use Rattle.flow_table.specs.FlowTable.{Table, entry, Sorted, TableInRange, get, insert, remove_if, assign_if, any_of, inside, clash, admits, fitting, highest, at_priority, first_at, best, after, answer, EffectInRange}
-use Rattle.flow_table.specs.Meanings.{Fits, FitsAt, Clashes, EntryWithin, Some, None, First, Count, Hits, Meets, Checks, Answers, Set, Modified, StandsAfter, Different}
-use Rattle.flow_table.proofs.TableLaws.{get_insert, get_mem, mem_get, sorted_insert, none_some}
+use Rattle.flow_table.specs.Meanings.{Fits, FitsAt, Clashes, EntryWithin, Some, None, First, Count, Hits, Meets, Checks, Answers, Set, StandsAfter, Different}
+use Rattle.flow_table.proofs.TableLaws.{get_insert, get_mem, mem_get, sorted_insert}
 
 -- ---- what stands in a table
 -- some entry's key passes the test

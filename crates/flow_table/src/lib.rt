@@ -1,5 +1,6 @@
 // What the events of a trace do to a flow table, and what they answer.
 #![tactic(auto)]
+
 pub mod carried;
 pub mod effect;
 pub mod keys;

@@ -1,5 +1,6 @@
 // Happens-before: for each event of a trace the set of the events before it.
 #![tactic(auto)]
+
 pub mod closure;
 mod sets;
 

@@ -1,6 +1,7 @@
 // Whether an order of a trace's events is accepted: none missing, and none before one that happens before it; and
 // the recorded order.
 #![tactic(auto)]
+
 pub mod accepting;
 pub mod completeness;
 pub mod recorded;

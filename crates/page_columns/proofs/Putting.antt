@@ -3,10 +3,10 @@ use Prim.Native.Nat.{ℕ, ◌+◌, ◌-◌, ◌≤◌}
 use native.Mathlib.Nat.{add-zero}
 use native.Mathlib.Omega.{arith}
 use mathlib.Core.Path.{◌≡◌, refl, sym, ap, subst, ◌∙◌}
-use mathlib.Core.List.{List, [], ◌++◌, append_assoc, append-nil}
-use lib.ListN.{length, take, drop, set, length-take, replicate-append-replicate, length-drop, drop_of_length-le}
-use lib.Seq.{take_at, take_all, take-length, drop-drop, sets-eq}
-use borrow.Rule.Slice.PartMut.{mid_of, post_of, put_mid, Post-is}
+use mathlib.Core.List.{List, append_assoc}
+use lib.ListN.{length, take, drop, set, length-take, replicate-append-replicate}
+use lib.Seq.{take_at, sets-eq}
+use borrow.Rule.Slice.PartMut.{post_of, put_mid, Post-is}
 use Rattle.text_numbers.specs.Inner.{Put}
 use Rattle.text_numbers.specs.Print.{print_number}
 use Rattle.text_numbers.proofs.Writing.{put_none, put_one, put_then, put_whole, print_length}

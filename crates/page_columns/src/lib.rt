@@ -1,5 +1,6 @@
 // Texts in columns, put at a place of a buffer: blanks, and texts and numbers filled up with them.
 #![tactic(auto)]
+
 ghost use Rattle.std.specs.Prelude.{◌≡◌, ◌+◌, ◌-◌, ◌≤◌, ◌<◌, ◌^◌, length};
 ghost use Rattle.text_numbers.specs.Print.{print_number};
 ghost use Rattle.text_numbers.specs.Inner.{Put};

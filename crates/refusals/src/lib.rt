@@ -1,5 +1,6 @@
 // What is refused: document 01's table of refusals, and the refused line.
 #![tactic(auto)]
+
 pub mod line;
 pub mod refusal;
 pub mod refused;

@@ -1,5 +1,6 @@
 // What the programs print of a refusal, put into a buffer: `refused=4 place=2`, and the refused line where the place is one.
 #![tactic(auto)]
+
 ghost use Rattle.std.specs.Prelude.{[], ◌∷◌, ◌++◌, ◌≡◌, ◌+◌, ◌≤◌, ◌<◌, ◌^◌, length};
 ghost use Rattle.text_numbers.specs.Inner.{Put};
 ghost use Rattle.refusals_text.specs.Report.{key_number, refusal_line, refused_text};

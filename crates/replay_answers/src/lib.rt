@@ -1,5 +1,6 @@
 // The answers of events, kept under their numbers, and their lines.
 #![tactic(auto)]
+
 pub mod answers;
 pub mod kept;
 

@@ -1,5 +1,6 @@
 // The entries of all switches in one array, sorted by switch and then in table order, and the tests that events make of them.
 #![tactic(auto)]
+
 pub mod filter;
 pub mod row;
 

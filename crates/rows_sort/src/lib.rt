@@ -1,5 +1,6 @@
 // The rows of a text's lines, put in order.
 #![tactic(auto)]
+
 ghost use Rattle.std.specs.Prelude.{◌≤◌};
 ghost use Rattle.rows.specs.Rows.{rows_of};
 ghost use Rattle.rows_sort.specs.Sorting.{sort_rows, Sorts};

@@ -1,5 +1,6 @@
 // What an event does to the rows, and what it answers: its work, and the part of each row in it.
 #![tactic(auto)]
+
 pub mod answers;
 pub mod work;
 

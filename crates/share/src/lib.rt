@@ -1,5 +1,6 @@
 // The commuting share of the counts of a trace.
 #![tactic(auto)]
+
 ghost use Rattle.std.specs.Prelude.{◌≡◌};
 ghost use Rattle.call_answers.specs.Inner.{Small};
 ghost use Rattle.share.specs.Share.{share_of};

@@ -1,5 +1,6 @@
 // What is printed of a share, put into a buffer.
 #![tactic(auto)]
+
 ghost use Rattle.std.specs.Prelude.{◌≤◌};
 ghost use Rattle.text_numbers.specs.Inner.{Put};
 ghost use Rattle.share_report.specs.Report.{share_line};

@@ -1,5 +1,5 @@
 -- A text as lines, each ended by LF, byte 10.
-use Rattle.std.specs.Prelude.{ℕ, ◌+◌, ◌-◌, Bool, cond, ◌||◌, List, [], ◌∷◌, ◌++◌, eqb, length, get_or, take}
+use Rattle.std.specs.Prelude.{ℕ, ◌-◌, Bool, cond, ◌||◌, List, [], ◌∷◌, ◌++◌, eqb, length, get_or, take}
 use Rattle.basics.specs.Text.{bytes}
 
 -- a byte more at the front of the first line

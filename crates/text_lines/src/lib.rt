@@ -1,5 +1,6 @@
 // The lines of a text, each without the LF that ends it.
 #![tactic(auto)]
+
 pub mod limits; // how long a text may be
 
 ghost use Rattle.std.specs.Prelude.{◌≡◌, [], get_or, take, drop};

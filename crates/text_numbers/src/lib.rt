@@ -1,5 +1,6 @@
 // Numbers and keys as bytes: read from a place of a text, and put at a place of a buffer.
 #![tactic(auto)]
+
 pub mod text; // a byte, the rest of a text, a key
 pub mod read; // numbers from a place of a text on
 pub mod put; // bytes and numbers at a place of a buffer

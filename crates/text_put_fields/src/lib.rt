@@ -1,5 +1,6 @@
 // An entry and its parts, put at a place of a buffer.
 #![tactic(auto)]
+
 ghost use Rattle.std.specs.Prelude.{◌++◌, ◌+◌, ◌≤◌, ◌<◌, ◌^◌, length};
 ghost use Rattle.text_numbers.specs.Inner.{Put};
 ghost use Rattle.text_fields.specs.Print.{print_exact, print_prefix, print_last, print_match, print_action, print_key, print_entry};

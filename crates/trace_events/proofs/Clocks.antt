@@ -1,7 +1,7 @@
 -- The time rule: the test says yes exactly if document 01's words hold (`time_step_iff`), and of two events with ranges that are not
 -- empty exactly if every choice of true times puts the one later than the other by more than the delay (`time_rule_iff`). A longer
 -- delay orders no more (`time_step_less`). Assumes nothing.
-use Prim.Native.Nat.{ℕ, ◌+◌, ◌≤◌, ◌<◌}
+use Prim.Native.Nat.{ℕ, ◌+◌, ◌≤◌}
 use native.Mathlib.Nat.{le_refl}
 use native.Mathlib.Omega.{arith}
 use mathlib.Core.Path.{◌≡◌, refl, sym, ◌∙◌}
@@ -12,7 +12,7 @@ use borrow.Author.Tests.{lt-ltb, le-ltb, ltb-true, not-true}
 use Rattle.basics.proofs.Booleans.{split, and_left, and_right, and_intro, and_false_right}
 use Rattle.trace_events.specs.Types.{Origin, TableOperation, Operation, Event}
 use Rattle.trace_events.specs.Events.{is_message, is_handled, is_received}
-use Rattle.trace_events.specs.Clocks.{time_step, IsPkt, Clocked, TimeSteps, TimeOf, SurelyLater}
+use Rattle.trace_events.specs.Clocks.{time_step, IsPkt, Clocked, TimeSteps, SurelyLater}
 
 -- ---- which two events the rule is about
 handled_of : (o : Operation) → is_handled o ≡ true → o ≡ Operation.Other → ⊥

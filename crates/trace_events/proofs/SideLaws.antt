@@ -9,7 +9,7 @@ use lib.ListN.{take}
 use borrow.Author.Tests.{lt-ltb}
 use Rattle.basics.specs.Searches.{shares}
 use Rattle.basics.proofs.Booleans.{and_cases, or_cases, or_left, or_right}
-use Rattle.trace_events.specs.Types.{TableOperation, Operation, Tokens, Head, Event}
+use Rattle.trace_events.specs.Types.{Operation, Tokens, Head, Event}
 use Rattle.trace_events.specs.Events.{tokens_of, is_message, barrier_orders, is_handled, is_received}
 use Rattle.trace_events.specs.Precedence.{barrier_step, token_step, line_step}
 use Rattle.trace_events.specs.Clocks.{time_step}

@@ -1,6 +1,6 @@
 -- Document 01, "Happens-before": the time rule, as a test and in words. The delay is the caller's. Which line is the later doesn't
 -- matter to it.
-use Rattle.std.specs.Prelude.{◌≡◌, Bool, true, false, not, ◌&&◌, List, ℕ, ◌+◌, ◌≤◌, ◌<◌, ltb, length}
+use Rattle.std.specs.Prelude.{◌≡◌, Bool, false, not, ◌&&◌, List, ℕ, ◌+◌, ◌≤◌, ◌<◌, ltb, length}
 use Rattle.trace_events.specs.Types.{Packet, Origin, TableOperation, Operation, Event}
 use Rattle.trace_events.specs.Events.{event_at, is_handled, is_received}
 

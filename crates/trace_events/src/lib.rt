@@ -1,5 +1,6 @@
 // The events of a trace, and when an event directly precedes a later one.
 #![tactic(auto)]
+
 pub mod barriers;
 pub mod event;
 pub mod head;

@@ -1,5 +1,6 @@
 // The head of a line: `in`, `out`, `from` and `to`.
 #![tactic(auto)]
+
 ghost use Rattle.std.specs.Prelude.{◌≡◌};
 ghost use Rattle.refusals.specs.Checks.{refuse_none};
 ghost use Rattle.trace_head.specs.Heads.{read_head};

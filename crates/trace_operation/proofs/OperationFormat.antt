@@ -20,7 +20,7 @@ use Rattle.text_fields.proofs.MatchFormats.{match_follows, match_format, packet_
 use Rattle.text_fields.proofs.EntryFormats.{key_follows, key_format, entry_follows, entry_format}
 use Rattle.trace_words.specs.Words.{table_word, word_of, write_of}
 use Rattle.trace_words.proofs.WordLaws.{by_word, write_word, write_carries}
-use Rattle.trace_operation.specs.Types.{Match, Packet, Key, Entry, TableOperation, Operation, Word, SwitchWord, Write}
+use Rattle.trace_operation.specs.Types.{Match, Packet, Key, Entry, TableOperation, Operation, Word, SwitchWord}
 use Rattle.trace_operation.specs.Operations.{print_switch, print_operation, read_switch, read_on, read_operation, CarriedWritten, OperationWritten}
 
 -- ---- each word on a switch: what stands behind the switch, its format, and the operation that it makes

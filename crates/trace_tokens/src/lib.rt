@@ -1,5 +1,6 @@
 // The tokens of `in` or `out`: `-`, or one to four numbers with commas, strictly rising.
 #![tactic(auto)]
+
 ghost use Rattle.std.specs.Prelude.{◌≡◌, [], ◌∷◌, ◌++◌, ◌<◌};
 ghost use Rattle.text_numbers.specs.Reading.{keyed, mapped};
 ghost use Rattle.trace_events.specs.Events.{tokens_of};

@@ -1,5 +1,6 @@
 // The words of `do`: read from a place of a line, and of an operation.
 #![tactic(auto)]
+
 pub mod read; // a word's text
 pub mod word; // a word and its operations
 

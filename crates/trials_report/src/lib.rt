@@ -1,5 +1,6 @@
 // What is printed of tried orders, put into a buffer.
 #![tactic(auto)]
+
 ghost use Rattle.std.specs.Prelude.{◌+◌, ◌*◌, ◌≤◌, ◌<◌, ◌^◌, length};
 ghost use Rattle.text_numbers.specs.Inner.{Put};
 ghost use Rattle.trials_report.specs.Report.{result_line, result_lines};

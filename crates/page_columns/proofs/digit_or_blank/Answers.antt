@@ -1,6 +1,5 @@
 use mathlib.Core.Path.{sym}
 use Rattle.page_columns.proofs.Digits.{digit_blank, digit_there}
-use borrow.Author.Rules.{rules}
 use Rattle.page_columns.proofs.digit_or_blank.Goals as goal
 
 pub returns-then-v-power : goal.returns-then-v-power

@@ -1,10 +1,5 @@
-use Prim.Native.Nat.{◌≤◌, ◌-◌, ◌+◌}
-use mathlib.Core.Path.{◌≡◌, refl, ◌∙◌}
+use mathlib.Core.Path.{refl, ◌∙◌}
 use native.Mathlib.Omega.{arith}
-use borrow.Author.Rules.{rules}
-use lib.ListN.{length}
-use Rattle.text_numbers.specs.Inner.{Put}
-use Rattle.page_columns.specs.Columns.{blanks}
 use Rattle.page_columns.proofs.Putting.{blanks_none, blanks_more, blanks_all}
 use Rattle.page_columns.proofs.put_blanks.Goals as goal
 

@@ -1,5 +1,4 @@
 use Rattle.page_columns.proofs.Putting.{block_put}
-use borrow.Author.Rules.{rules}
 use Rattle.page_columns.proofs.put_block.Goals as goal
 
 pub returns-then-end-out : goal.returns-then-end-out

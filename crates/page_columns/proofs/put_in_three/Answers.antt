@@ -1,6 +1,5 @@
 use mathlib.Core.Path.{refl}
 use Rattle.page_columns.proofs.Digits.{three_put}
-use borrow.Author.Rules.{rules}
 use Rattle.page_columns.proofs.put_in_three.Goals as goal
 
 pub returns : goal.returns

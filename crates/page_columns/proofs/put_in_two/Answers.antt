@@ -1,6 +1,5 @@
 use mathlib.Core.Path.{refl}
 use Rattle.page_columns.proofs.Digits.{two_put}
-use borrow.Author.Rules.{rules}
 use Rattle.page_columns.proofs.put_in_two.Goals as goal
 
 pub returns : goal.returns

@@ -4,7 +4,6 @@ use mathlib.Core.Path.{refl, sym}
 use lib.ListN.{length}
 use lib.Seq.{length-take-le}
 use Rattle.page_columns.proofs.Putting.{digits_few, digits_short, digits_there, number_put}
-use borrow.Author.Rules.{rules}
 use Rattle.page_columns.proofs.put_number_right.Goals as goal
 
 pub slice_bounds-digits-end : goal.slice_bounds-digits-end

@@ -1,5 +1,4 @@
 use Rattle.page_columns.proofs.Putting.{right_put}
-use borrow.Author.Rules.{rules}
 use Rattle.page_columns.proofs.put_right.Goals as goal
 
 pub returns : goal.returns

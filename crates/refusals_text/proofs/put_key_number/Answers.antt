@@ -1,7 +1,6 @@
 use native.Mathlib.Omega.{arith}
 use Rattle.text_numbers.proofs.Writing.{put_then, print_length}
 use Rattle.refusals_text.specs.Report.{key_number}
-use borrow.Author.Rules.{rules}
 use Rattle.refusals_text.proofs.put_key_number.Goals as goal
 
 pub returns : goal.returns

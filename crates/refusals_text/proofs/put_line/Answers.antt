@@ -1,5 +1,4 @@
 use Rattle.text_numbers.proofs.Writing.{put_then, put_one}
-use borrow.Author.Rules.{rules}
 use Rattle.refusals_text.proofs.put_line.Goals as goal
 
 pub returns : goal.returns

@@ -1,7 +1,6 @@
 use Rattle.refusals_text.proofs.Laws.{refusal_put}
 use Rattle.text_numbers.proofs.Writing.{put_then, put_one}
 use native.Mathlib.Omega.{arith}
-use borrow.Author.Rules.{rules}
 use Rattle.refusals_text.proofs.put_refusal.Goals as goal
 
 pub returns : goal.returns

@@ -1,7 +1,6 @@
 use Rattle.refusals_text.proofs.Laws.{refused_arm}
 use Rattle.text_numbers.proofs.Writing.{put_then, put_none}
 use mathlib.Core.Path.{refl}
-use borrow.Author.Rules.{rules}
 use Rattle.refusals_text.proofs.refused.Goals as goal
 
 pub returns-in-Neither : goal.returns-in-Neither

@@ -1,13 +1,12 @@
 use mathlib.Core.Path.{◌≡◌, refl, sym, ap, ◌∙◌}
-use Prim.Native.Nat.{◌+◌, ◌-◌, ◌≤◌}
+use Prim.Native.Nat.{◌+◌}
 use native.Mathlib.Omega.{arith}
-use lib.ListN.{take, drop, length, length-set}
+use lib.ListN.{take, length, length-set}
 use borrow.Author.Rules.{rules}
-use Rattle.rows.specs.Rows.{SortedRows}
 use Rattle.basics.proofs.Arrays.{length_mapped}
 use Rattle.rows.proofs.RowLaws.{sorted_insert_row}
-use Rattle.rows_search.proofs.Searches.{Searched, search_start, search_less, search_turn, search_end}
-use Rattle.rows_search.proofs.Shifts.{Shifting, shift_start, shift_turn, shift_end}
+use Rattle.rows_search.proofs.Searches.{search_start, search_less, search_turn, search_end}
+use Rattle.rows_search.proofs.Shifts.{shift_start, shift_turn, shift_end}
 use Rattle.rows_sort.specs.Sorting.{sort_from, sort_rows}
 use Rattle.rows_sort.proofs.SortLaws.{line_twice, line_first, no_lines, shift_rest}
 use Rattle.rows_sort.proofs.sort.Goals as goal

@@ -1,17 +1,12 @@
 -- The outer invariant: the first i rows are in order, and with them the rest, which are still the lines' own, sorts as all lines do.
 -- The second: the search for line i's place. The third: the rows from the place on move up.
-use mathlib.Core.Path.{◌≡◌, refl, sym, ap, ◌∙◌}
-use Prim.Native.Nat.{◌+◌, ◌-◌, ◌≤◌}
-use native.Mathlib.Omega.{arith}
-use lib.ListN.{take, drop, length, length-set}
-use borrow.Author.Rules.{rules}
+use mathlib.Core.Path.{◌≡◌}
+use Prim.Native.Nat.{◌-◌, ◌≤◌}
+use lib.ListN.{take, drop, length}
 use Rattle.rows.specs.Rows.{SortedRows}
-use Rattle.basics.proofs.Arrays.{length_mapped}
-use Rattle.rows.proofs.RowLaws.{sorted_insert_row}
-use Rattle.rows_search.proofs.Searches.{Searched, search_start, search_less, search_turn, search_end}
-use Rattle.rows_search.proofs.Shifts.{Shifting, shift_start, shift_turn, shift_end}
+use Rattle.rows_search.proofs.Searches.{Searched}
+use Rattle.rows_search.proofs.Shifts.{Shifting}
 use Rattle.rows_sort.specs.Sorting.{sort_from, sort_rows}
-use Rattle.rows_sort.proofs.SortLaws.{line_twice, line_first, no_lines, shift_rest}
 use Rattle.rows_sort.proofs.sort.Given as goal
 
 abbrev pub invariant-loop-search : goal.invariant-loop-search

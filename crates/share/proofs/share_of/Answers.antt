@@ -1,6 +1,5 @@
 use mathlib.Core.Path.{sym}
 use Rattle.share.proofs.Theorems.{share_none, share_some}
-use borrow.Author.Rules.{rules}
 use Rattle.share.proofs.share_of.Goals as goal
 
 pub returns-then-divisor-eq0 : goal.returns-then-divisor-eq0

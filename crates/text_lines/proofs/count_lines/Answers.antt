@@ -1,8 +1,5 @@
-use Prim.Native.Nat.{◌≤◌, ◌-◌, ◌+◌}
-use mathlib.Core.Path.{◌≡◌, sym, ◌∙◌}
+use mathlib.Core.Path.{sym, ◌∙◌}
 use native.Mathlib.Omega.{arith}
-use lib.ListN.{length, drop}
-use Rattle.text_lines.specs.Inner.{newlines}
 use Rattle.text_lines.proofs.Laws.{count_end, count_here, count_on}
 use Rattle.text_lines.proofs.count_lines.Goals as goal
 use Rattle.text_lines.proofs.count_lines.Goals.{then-s-i-eq-LF, else-s-i-eq-LF}

@@ -1,4 +1,3 @@
-use borrow.Author.Rules.{rules}
 use borrow.Author.Tests.{eq-eqb, ne_eqb}
 use Rattle.text_lines.specs.Lines.{ends_with_lf}
 use Rattle.text_lines.proofs.ends_with_lf.Goals as goal

@@ -1,5 +1,4 @@
 use mathlib.Core.Path.{◌∙◌}
-use borrow.Author.Rules.{rules}
 use Rattle.text_lines.specs.Inner.{first_line}
 use Rattle.text_lines.proofs.line_from.Goals as goal
 

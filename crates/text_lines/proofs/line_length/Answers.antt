@@ -1,8 +1,4 @@
-use Prim.Native.Nat.{◌-◌, ◌+◌}
-use mathlib.Core.Path.{◌≡◌, sym, ◌∙◌}
-use native.Mathlib.Omega.{arith}
-use lib.ListN.{length, drop}
-use Rattle.text_lines.specs.Inner.{line_length}
+use mathlib.Core.Path.{sym, ◌∙◌}
 use Rattle.text_lines.proofs.Laws.{length_end, length_here, length_on}
 use Rattle.text_lines.proofs.line_length.Goals as goal
 

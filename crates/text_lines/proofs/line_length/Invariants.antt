@@ -1,10 +1,8 @@
 -- The invariant: the first line is i bytes and those before the next LF long.
 use Prim.Native.Nat.{◌-◌, ◌+◌}
-use mathlib.Core.Path.{◌≡◌, sym, ◌∙◌}
-use native.Mathlib.Omega.{arith}
+use mathlib.Core.Path.{◌≡◌}
 use lib.ListN.{length, drop}
 use Rattle.text_lines.specs.Inner.{line_length}
-use Rattle.text_lines.proofs.Laws.{length_end, length_here, length_on}
 use Rattle.text_lines.proofs.line_length.Given as goal
 
 abbrev pub invariant-loop-i : goal.invariant-loop-i

@@ -1,10 +1,8 @@
-use Prim.Native.Nat.{◌+◌, ◌-◌, ◌≤◌}
-use mathlib.Core.Path.{◌≡◌, sym, ◌∙◌}
+use Prim.Native.Nat.{◌+◌, ◌≤◌}
+use mathlib.Core.Path.{sym, ◌∙◌}
 use native.Mathlib.Nat.{sub-zero}
 use native.Mathlib.Omega.{arith}
-use borrow.Author.Rules.{rules}
-use lib.ListN.{length, drop}
-use Rattle.text_lines.specs.Lines.{line_start}
+use lib.ListN.{length}
 use Rattle.text_lines.proofs.Laws.{start_none, start_here, start_room, start_next}
 use Rattle.text_lines.proofs.line_start.Goals as goal
 
@@ -16,12 +14,12 @@ returns-then-text-at c = sym (c.loop-i.invariant ∙ start_none _ _ _ c.if-text-
 
 pub overflow_add-at : goal.overflow_add-at
 overflow_add-at c =
-    let room : c.loop-i.at + c.line_length.result ≤ length c.args.text.now =  start_room c.args.text.now _ _ _ c.if-text-at.false c.rest-rest.ensures c.line_length.ensures in
+    let room : c.loop-i.at + c.line_length.result ≤ length c.args.text.now = start_room c.args.text.now _ _ _ c.if-text-at.false c.rest-rest.ensures c.line_length.ensures in
     omega (arith, room)
 
 pub overflow_add-at-in-loop-i : goal.overflow_add-at-in-loop-i
 overflow_add-at-in-loop-i c =
-    let room : c.loop-i.at + c.line_length.result ≤ length c.args.text.now =  start_room c.args.text.now _ _ _ c.if-text-at.false c.rest-rest.ensures c.line_length.ensures in
+    let room : c.loop-i.at + c.line_length.result ≤ length c.args.text.now = start_room c.args.text.now _ _ _ c.if-text-at.false c.rest-rest.ensures c.line_length.ensures in
     omega (arith, room)
 
 pub loop-i-preserved : goal.loop-i-preserved

@@ -1,12 +1,8 @@
 -- The invariant: the line that is looked for starts after `at` as far as that of the number less i does in the lines from there on.
-use Prim.Native.Nat.{◌+◌, ◌-◌, ◌≤◌}
-use mathlib.Core.Path.{◌≡◌, sym, ◌∙◌}
-use native.Mathlib.Nat.{sub-zero}
-use native.Mathlib.Omega.{arith}
-use borrow.Author.Rules.{rules}
-use lib.ListN.{length, drop}
+use Prim.Native.Nat.{◌+◌, ◌-◌}
+use mathlib.Core.Path.{◌≡◌}
+use lib.ListN.{drop}
 use Rattle.text_lines.specs.Lines.{line_start}
-use Rattle.text_lines.proofs.Laws.{start_none, start_here, start_room, start_next}
 use Rattle.text_lines.proofs.line_start.Given as goal
 
 abbrev pub invariant-loop-i : goal.invariant-loop-i

@@ -1,5 +1,4 @@
 use mathlib.Core.Path.{◌∙◌}
-use borrow.Author.Rules.{rules}
 use Rattle.text_lines.proofs.Laws.{line_found}
 use Rattle.text_lines.proofs.nth_line.Goals as goal
 

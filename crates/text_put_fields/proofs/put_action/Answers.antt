@@ -1,4 +1,3 @@
-use borrow.Author.Rules.{rules}
 use Rattle.text_numbers.proofs.Writing.{put_then}
 use Rattle.text_fields.specs.Print.{print_action}
 use Rattle.text_put_fields.proofs.put_action.Goals as goal

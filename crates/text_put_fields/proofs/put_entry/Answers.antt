@@ -1,5 +1,4 @@
 use native.Mathlib.Omega.{arith}
-use borrow.Author.Rules.{rules}
 use Rattle.text_numbers.proofs.Writing.{put_then}
 use Rattle.text_fields.specs.Print.{print_entry}
 use Rattle.text_put_fields.proofs.Lengths.{key_length}

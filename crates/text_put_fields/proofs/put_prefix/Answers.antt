@@ -1,5 +1,4 @@
 use native.Mathlib.Omega.{arith}
-use borrow.Author.Rules.{rules}
 use Rattle.text_numbers.proofs.Writing.{put_then, print_length, hex_length}
 use Rattle.text_fields.specs.Print.{print_prefix}
 use Rattle.text_put_fields.proofs.put_prefix.Goals as goal

@@ -1,8 +1,6 @@
-use Prim.Native.Nat.{◌-◌}
 use mathlib.Core.Path.{sym, ◌∙◌}
 use native.Mathlib.Omega.{arith}
-use borrow.Author.Rules.{rules}
-use Rattle.trace_tokens.proofs.TokenListLaws.{Gathered, gathered_first, gathered_more, gathered_end, gathered_bad, gathered_full, count_more}
+use Rattle.trace_tokens.proofs.TokenListLaws.{gathered_first, gathered_more, gathered_end, gathered_bad, gathered_full, count_more}
 use Rattle.trace_tokens.proofs.read_more.Goals as goal
 
 pub loop-tokens-init : goal.loop-tokens-init

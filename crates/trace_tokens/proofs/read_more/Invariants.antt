@@ -1,9 +1,6 @@
 -- The invariant: what is read from the next place on, behind the tokens so far, is what all is read as.
 use Prim.Native.Nat.{◌-◌}
-use mathlib.Core.Path.{sym, ◌∙◌}
-use native.Mathlib.Omega.{arith}
-use borrow.Author.Rules.{rules}
-use Rattle.trace_tokens.proofs.TokenListLaws.{Gathered, gathered_first, gathered_more, gathered_end, gathered_bad, gathered_full, count_more}
+use Rattle.trace_tokens.proofs.TokenListLaws.{Gathered}
 use Rattle.trace_tokens.proofs.read_more.Given as goal
 
 abbrev pub invariant-loop-tokens : goal.invariant-loop-tokens

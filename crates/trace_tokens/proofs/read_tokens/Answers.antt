@@ -1,6 +1,5 @@
 use mathlib.Core.Path.{sym, ◌∙◌}
 use native.Mathlib.Omega.{arith}
-use borrow.Author.Rules.{rules}
 use Rattle.text_numbers.specs.Inner.{as_number}
 use Rattle.text_numbers.proofs.Readers.{seen}
 use Rattle.trace_tokens.proofs.TokenListLaws.{byte_in, tokens_none, tokens_bad, tokens_some}

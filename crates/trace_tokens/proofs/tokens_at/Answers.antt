@@ -1,5 +1,4 @@
 use native.Mathlib.Omega.{arith}
-use borrow.Author.Rules.{rules}
 use Rattle.text_numbers.proofs.Keys.{key_room, no_key, past_key}
 use Rattle.trace_tokens.proofs.tokens_at.Goals as goal
 

@@ -2,7 +2,6 @@ use native.Mathlib.Omega.{arith}
 use Rattle.text_numbers.proofs.Writing.{put_then, put_one}
 use Rattle.trials_report.specs.Report.{result_line}
 use Rattle.trials_report.proofs.Lines.{line_length_lem}
-use borrow.Author.Rules.{rules}
 use Rattle.trials_report.proofs.put_result.Goals as goal
 
 pub returns : goal.returns

@@ -1,12 +1,8 @@
-use Prim.Native.Nat.{ℕ, ◌+◌, ◌*◌, ◌-◌, ◌≤◌, ◌^◌}
 use native.Mathlib.Omega.{arith}
 use native.Mathlib.Nat.{add-zero}
-use mathlib.Core.Path.{◌≡◌, refl}
-use mathlib.Core.List.{List, [], ◌++◌}
-use lib.ListN.{length, drop}
-use Rattle.text_numbers.specs.Inner.{Put}
+use mathlib.Core.Path.{refl}
+use mathlib.Core.List.{[]}
 use Rattle.text_numbers.proofs.Writing.{put_none, put_length}
-use Rattle.trials_report.specs.Report.{result_lines}
 use Rattle.trials_report.proofs.Lines.{lines_turn, lines_done}
 use Rattle.trials_report.proofs.put_results.Goals as goal
 

@@ -1,6 +1,4 @@
-use borrow.Author.Rules.{rules}
-use Prim.Native.Nat.{◌-◌}
-use Rattle.bit_sets.proofs.NextLaws.{Passed, passed_none, passed_word, found, none_left}
+use Rattle.bit_sets.proofs.NextLaws.{passed_none, passed_word, found, none_left}
 use Rattle.bit_sets.proofs.search.next.Goals as goal
 
 pub loop-i-init : goal.loop-i-init

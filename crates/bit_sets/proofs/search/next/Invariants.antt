@@ -1,7 +1,6 @@
 -- The invariant: no member from the start on before i.
-use borrow.Author.Rules.{rules}
 use Prim.Native.Nat.{◌-◌}
-use Rattle.bit_sets.proofs.NextLaws.{Passed, passed_none, passed_word, found, none_left}
+use Rattle.bit_sets.proofs.NextLaws.{Passed}
 use Rattle.bit_sets.proofs.search.next.Given as goal
 
 abbrev pub invariant-loop-i : goal.invariant-loop-i

@@ -1,6 +1,5 @@
 use borrow.Author.Tests.{ne_eqb, eq-eqb}
 use mathlib.Core.Bool.{or-true, or-false}
-use borrow.Author.Rules.{rules}
 use Rattle.commuting.proofs.cases.add_add.Goals as goal
 
 pub returns-then-j-k : goal.returns-then-j-k

@@ -1,7 +1,6 @@
 use borrow.Author.Tests.{ne_eqb, eq-eqb}
 use Rattle.basics.proofs.Booleans.{was_false, was_true}
 use mathlib.Core.Bool.{and-true, and-false}
-use borrow.Author.Rules.{rules}
 use Rattle.commuting.proofs.cases.add_modify.Goals as goal
 
 pub returns-then-not-within : goal.returns-then-not-within

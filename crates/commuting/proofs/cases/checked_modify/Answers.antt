@@ -1,5 +1,4 @@
 use Rattle.basics.proofs.Booleans.{was}
-use borrow.Author.Rules.{rules}
 use Rattle.commuting.proofs.cases.checked_modify.Goals as goal
 
 pub returns-then-within : goal.returns-then-within

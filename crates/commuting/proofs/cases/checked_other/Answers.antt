@@ -1,5 +1,4 @@
 use borrow.Author.Tests.{ne_eqb, eq-eqb}
-use borrow.Author.Rules.{rules}
 use Rattle.commuting.proofs.cases.checked_other.Goals as goal
 
 pub returns-then-j-k : goal.returns-then-j-k

@@ -1,4 +1,3 @@
-use borrow.Author.Rules.{rules}
 use Rattle.commuting.proofs.cases.keys_differ.Goals as goal
 
 pub returns : goal.returns

@@ -1,4 +1,3 @@
-use borrow.Author.Rules.{rules}
 use Rattle.commuting.proofs.cases.outside.Goals as goal
 
 pub returns : goal.returns

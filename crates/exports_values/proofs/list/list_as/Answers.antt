@@ -1,5 +1,4 @@
 use Rattle.exports_values.proofs.Values.{list_counted, list_refused}
-use borrow.Author.Rules.{rules}
 use Rattle.exports_values.proofs.list.list_as.Goals as goal
 
 pub returns-in-Counts : goal.returns-in-Counts

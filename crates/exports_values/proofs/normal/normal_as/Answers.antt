@@ -1,5 +1,4 @@
 use Rattle.exports_values.proofs.Values.{normal_written, normal_refused}
-use borrow.Author.Rules.{rules}
 use Rattle.exports_values.proofs.normal.normal_as.Goals as goal
 
 pub returns-in-Length : goal.returns-in-Length

@@ -1,5 +1,4 @@
 use Rattle.exports_values.proofs.Values.{page_written, page_refused}
-use borrow.Author.Rules.{rules}
 use Rattle.exports_values.proofs.page.page_as.Goals as goal
 
 pub returns-in-Length : goal.returns-in-Length

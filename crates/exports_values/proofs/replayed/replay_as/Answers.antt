@@ -1,5 +1,4 @@
 use Rattle.exports_values.proofs.Values.{replay_written, replay_refused}
-use borrow.Author.Rules.{rules}
 use Rattle.exports_values.proofs.replayed.replay_as.Goals as goal
 
 pub returns-in-Lengths : goal.returns-in-Lengths

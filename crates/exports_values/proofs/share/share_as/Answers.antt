@@ -1,5 +1,4 @@
 use Rattle.exports_values.proofs.Values.{share_divided, share_refused}
-use borrow.Author.Rules.{rules}
 use Rattle.exports_values.proofs.share.share_as.Goals as goal
 
 pub returns-in-Share : goal.returns-in-Share

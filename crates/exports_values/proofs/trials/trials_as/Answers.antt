@@ -1,5 +1,4 @@
 use Rattle.exports_values.proofs.Values.{trials_counted, trials_refused}
-use borrow.Author.Rules.{rules}
 use Rattle.exports_values.proofs.trials.trials_as.Goals as goal
 
 pub returns-in-Orders : goal.returns-in-Orders

@@ -4,7 +4,6 @@ use Prim.Native.Nat.{ℕ, ◌*◌, ◌%◌, ◌-◌, ◌^◌, ◌≤◌, ◌<◌
 use native.Mathlib.Omega.{arith}
 use lib.Pow.{pow_pos, pow_mono, shl_exact}
 use Rattle.flow.specs.Matches.{mask_of}
-use borrow.Author.Rules.{rules}
 use Rattle.flow.proofs.prefix.mask.Goals as goal
 
 -- `prefix::mask`: in 64 bits neither the shift loses a bit nor is the difference negative, and the difference has 32 bits.

@@ -1,4 +1,3 @@
-use borrow.Author.Rules.{rules}
 use Rattle.flow.proofs.prefix.same_leading.Goals as goal
 
 pub returns : goal.returns

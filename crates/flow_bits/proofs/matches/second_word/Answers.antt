@@ -1,5 +1,4 @@
 use mathlib.Core.Path.{subst, ap₂, ◌∙◌}
-use borrow.Author.Rules.{rules}
 use Rattle.flow_bits.specs.Inner.{joined, InBits, second_word}
 use Rattle.flow_bits.proofs.matches.second_word.Goals as goal
 

@@ -1,5 +1,4 @@
 use mathlib.Core.Path.{sym, ap}
-use borrow.Author.Rules.{rules}
 use Rattle.flow_table.specs.Carried.{carried_of}
 use Rattle.flow_table.proofs.carried.carried_by.Goals as goal
 

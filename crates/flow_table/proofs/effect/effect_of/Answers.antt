@@ -1,5 +1,4 @@
 use mathlib.Core.Path.{sym, ap, ◌∙◌}
-use borrow.Author.Rules.{rules}
 use Rattle.flow_table.specs.FlowTable.{effect_of}
 use Rattle.flow_table.proofs.effect.effect_of.Goals as goal
 

@@ -1,5 +1,4 @@
 use mathlib.Core.Path.{sym, ap}
-use borrow.Author.Rules.{rules}
 use Rattle.flow_table.specs.FlowTable.{table_effect}
 use Rattle.flow_table.proofs.effect.table_effect.Goals as goal
 

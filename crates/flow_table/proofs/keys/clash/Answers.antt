@@ -1,4 +1,3 @@
-use borrow.Author.Rules.{rules}
 use Rattle.flow_table.proofs.keys.clash.Goals as goal
 
 pub returns : goal.returns

@@ -1,9 +1,8 @@
-use Prim.Native.Nat.{ℕ, ◌≤◌, ◌-◌}
+use Prim.Native.Nat.{◌≤◌}
 use native.Mathlib.Omega.{arith}
 use mathlib.Core.Path.{◌≡◌, refl, sym, ap, ◌∙◌}
 use lib.ListN.{length, length-set}
 use borrow.Author.Rules.{rules}
-use Rattle.bit_sets.specs.Inner.{member}
 use Rattle.bit_sets.proofs.Members.{member_none}
 use Rattle.trace_events.specs.Events.{events_of}
 use Rattle.basics.specs.Searches.{any_below}
@@ -11,9 +10,9 @@ use Rattle.trace_events.proofs.TraceLaws.{length_events}
 use Rattle.basics.proofs.Arrays.{length_mapped, noted_more}
 use Rattle.basics.proofs.Booleans.{was, was_false}
 use Rattle.trace_events.specs.Inner.{no_side}
-use Rattle.happens_before.proofs.RowLaws.{Filled, joined, filled_at, filled_none, filled_more, filled_all}
-use Rattle.happens_before.proofs.SideNotes.{Noted, side_at, a_step, token_step_lem, no_step, passed_by}
-use Rattle.happens_before.proofs.SearchStart.{Barred, barred_more, Earliest, earliest_more, from_within, none_below}
+use Rattle.happens_before.proofs.RowLaws.{joined, filled_at, filled_none, filled_more, filled_all}
+use Rattle.happens_before.proofs.SideNotes.{side_at, a_step, token_step_lem, no_step, passed_by}
+use Rattle.happens_before.proofs.SearchStart.{barred_more, earliest_more, from_within, none_below}
 use Rattle.happens_before.proofs.Chains.{row_union}
 use Rattle.happens_before.specs.Causality.{through}
 use Rattle.happens_before.proofs.closure.happens_before.Goals as goal
@@ -23,8 +22,7 @@ loop-j-init c = (omega arith, search (rules, length_mapped), refl, filled_none _
 
 pub loop-k-init : goal.loop-k-init
 loop-k-init c =
-    let fits : c.args.t.len ≤ length c.args.t.events = omega (arith, c.requires) in
-    (
+    let fits : c.args.t.len ≤ length c.args.t.events = omega (arith, c.requires) in (
       rw c.search_from-from.ensures (from_within _ _ _ _ _),
       λ i. member_none 4 i ∙ none_below c.args.delay c.args.t fits c.loop-j.j (omega arith) c.side-later.ensures c.loop-j.invariant.6 c.loop-j.invariant.7 i ∙ ap (any_below (through c.args.delay (events_of c.args.t) i _)) (sym c.search_from-from.ensures),
     )

@@ -1,22 +1,14 @@
 -- The outer invariant: the rows of the events below j are filled and their sides noted, `barred` tells whether one of them is a
 -- barrier, and `earliest` is no later than the `to` of any that a switch handles. The inner: the set holds what happens before j by a last step from below k; no step leads to j from before the search.
 use Prim.Native.Nat.{ℕ, ◌≤◌, ◌-◌}
-use native.Mathlib.Omega.{arith}
-use mathlib.Core.Path.{◌≡◌, refl, sym, ap, ◌∙◌}
-use lib.ListN.{length, length-set}
-use borrow.Author.Rules.{rules}
+use mathlib.Core.Path.{◌≡◌}
+use lib.ListN.{length}
 use Rattle.bit_sets.specs.Inner.{member}
-use Rattle.bit_sets.proofs.Members.{member_none}
 use Rattle.trace_events.specs.Events.{events_of}
 use Rattle.basics.specs.Searches.{any_below}
-use Rattle.trace_events.proofs.TraceLaws.{length_events}
-use Rattle.basics.proofs.Arrays.{length_mapped, noted_more}
-use Rattle.basics.proofs.Booleans.{was, was_false}
-use Rattle.trace_events.specs.Inner.{no_side}
-use Rattle.happens_before.proofs.RowLaws.{Filled, joined, filled_at, filled_none, filled_more, filled_all}
-use Rattle.happens_before.proofs.SideNotes.{Noted, side_at, a_step, token_step_lem, no_step, passed_by}
-use Rattle.happens_before.proofs.SearchStart.{Barred, barred_more, Earliest, earliest_more, from_within, none_below}
-use Rattle.happens_before.proofs.Chains.{row_union}
+use Rattle.happens_before.proofs.RowLaws.{Filled}
+use Rattle.happens_before.proofs.SideNotes.{Noted}
+use Rattle.happens_before.proofs.SearchStart.{Barred, Earliest}
 use Rattle.happens_before.specs.Causality.{through}
 use Rattle.happens_before.proofs.closure.happens_before.Given as goal
 

@@ -1,4 +1,3 @@
-use borrow.Author.Rules.{rules}
 use Rattle.happens_before.specs.Inner.{bit}
 use Rattle.happens_before.proofs.closure.is_before.Goals as goal
 

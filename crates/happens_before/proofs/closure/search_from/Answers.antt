@@ -1,5 +1,4 @@
 use mathlib.Core.Path.{refl}
-use borrow.Author.Rules.{rules}
 use Rattle.happens_before.specs.Inner.{search_from}
 use Rattle.happens_before.proofs.closure.search_from.Goals as goal
 

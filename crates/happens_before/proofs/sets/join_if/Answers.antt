@@ -1,4 +1,3 @@
-use borrow.Author.Rules.{rules}
 use mathlib.Core.Bool.{or-false}
 use Rattle.happens_before.proofs.sets.join_if.Goals as goal
 

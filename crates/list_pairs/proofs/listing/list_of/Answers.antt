@@ -1,5 +1,4 @@
 use Rattle.list_pairs.proofs.Made.{events_most, made}
-use borrow.Author.Rules.{rules}
 use Rattle.list_pairs.proofs.listing.list_of.Goals as goal
 
 pub returns : goal.returns

@@ -1,22 +1,13 @@
 -- The outer invariant: the counts and the list have the pairs whose lower event is below i. The inner: and those of i and the events below j.
-use Prim.Native.Nat.{ℕ, ◌+◌, ◌-◌, ◌*◌, ◌<◌, ◌≤◌}
-use native.Mathlib.Omega.{arith}
-use mathlib.Core.Path.{◌≡◌, refl, sym, ap, ap₂, ◌∙◌}
-use mathlib.Core.List.{List}
+use Prim.Native.Nat.{◌+◌, ◌-◌, ◌*◌, ◌<◌, ◌≤◌}
+use mathlib.Core.Path.{◌≡◌}
 use lib.ListN.{length}
-use lib.Seq.{sets, length-sets}
-use borrow.Author.Rules.{rules}
-use Rattle.trace_events.specs.Events.{events_of, event_at}
-use Rattle.trace_events.proofs.TraceLaws.{length_events}
-use Rattle.basics.proofs.Arrays.{length_mapped}
-use Rattle.list_pairs.proofs.Reading.{get_D_either}
-use Rattle.list_pairs.specs.Types.{TableUse}
-use Rattle.list_pairs.specs.List.{test, Pair, pair_bytes, of_kind}
+use lib.Seq.{sets}
+use Rattle.trace_events.specs.Events.{events_of}
+use Rattle.list_pairs.specs.List.{pair_bytes}
 use Rattle.list_verdicts.specs.Kinds.{listed, Kind}
-use Rattle.list_verdicts.specs.Inner.{no_use, verdict_by}
-use Rattle.list_verdicts.proofs.Paths.{verdict_by_lem}
 use Rattle.list_pairs.specs.Inner.{count_of}
-use Rattle.list_pairs.proofs.PairLaws.{pairs_of, row_start, row_most, small_of, count_turn, bytes_turn, rows_below, below_most, below_count, below_bytes, all_rows, counted}
+use Rattle.list_pairs.proofs.PairLaws.{pairs_of, rows_below}
 use Rattle.list_pairs.proofs.pass.scan.Given as goal
 
 abbrev pub invariant-loop-j : goal.invariant-loop-j

@@ -1,16 +1,11 @@
 -- The invariant: the array has what the events before k are to the list.
 use Prim.Native.Nat.{ℕ, ◌-◌, ◌≤◌, ◌<◌}
-use mathlib.Core.Path.{◌≡◌, refl, sym, ap, ◌∙◌, subst}
-use native.Mathlib.Omega.{arith}
-use lib.ListN.{length, length-set, get_or}
-use borrow.Author.Rules.{rules}
+use mathlib.Core.Path.{◌≡◌}
+use lib.ListN.{length, get_or}
 use Rattle.flow_table.specs.FlowTable.{effect_of}
 use Rattle.commuting.specs.InnerFootprints.{NarrowEffect}
 use Rattle.trace_events.specs.Events.{events_of, event_at}
-use Rattle.trace_events.proofs.TraceLaws.{event_at_lem}
-use Rattle.basics.proofs.Arrays.{length_mapped, noted_more, holds_more}
 use Rattle.list_verdicts.specs.Inner.{no_use, table_use}
-use Rattle.list_pairs.specs.Types.{Event}
 use Rattle.list_pairs.proofs.uses.all_uses.Given as goal
 
 abbrev pub invariant-loop-k : goal.invariant-loop-k

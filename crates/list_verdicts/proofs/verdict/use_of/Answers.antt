@@ -1,5 +1,4 @@
 use mathlib.Core.Path.{◌∙◌, ap, subst}
-use borrow.Author.Rules.{rules}
 use Rattle.commuting.specs.InnerFootprints.{footprint_of, NarrowEffect}
 use Rattle.list_verdicts.specs.Inner.{table_use}
 use Rattle.list_verdicts.proofs.verdict.use_of.Goals as goal

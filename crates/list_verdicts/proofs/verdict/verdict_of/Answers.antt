@@ -1,6 +1,5 @@
 use borrow.Author.Tests.{not-true, not-false}
 use Rattle.list_verdicts.proofs.Paths.{unpaired, is_ordered, is_commuting, is_listed}
-use borrow.Author.Rules.{rules}
 use Rattle.list_verdicts.proofs.verdict.verdict_of.Goals as goal
 
 pub returns-then-not-is_paired : goal.returns-then-not-is_paired

@@ -2,7 +2,6 @@
 use mathlib.Core.Path.{◌≡◌, refl, sym, ap, ◌∙◌}
 use native.Mathlib.Omega.{arith}
 use borrow.Author.Tests.{not-true, not-false}
-use borrow.Author.Rules.{rules}
 use Rattle.happens_before.specs.Inner.{bit}
 use Rattle.refusals.specs.Checks.{refuse_at}
 use Rattle.order_check.specs.Types.{Refusal}
@@ -26,10 +25,10 @@ first_early-early-requires c =
 
 pub returns-in-At : goal.returns-in-At
 returns-in-At c =
-    let searched : refuse_at (as_position c.first_early-early.result) Refusal.EventTooEarly ≡ check_by (bit c.args.rows.now) c.args.n c.args.order.now =  refuses_early (bit c.args.rows.now) c.args.n c.args.order.now c.is_complete.ensures (not-false _ c.if-not-is_complete.false-raw) (as_position c.first_early-early.result) c.first_early-early.ensures in
+    let searched : refuse_at (as_position c.first_early-early.result) Refusal.EventTooEarly ≡ check_by (bit c.args.rows.now) c.args.n c.args.order.now = refuses_early (bit c.args.rows.now) c.args.n c.args.order.now c.is_complete.ensures (not-false _ c.if-not-is_complete.false-raw) (as_position c.first_early-early.result) c.first_early-early.ensures in
     ap (λ e. refuse_at (as_position e) Refusal.EventTooEarly) (sym c.in-At.is) ∙ searched
 
 pub returns-in-Nowhere : goal.returns-in-Nowhere
 returns-in-Nowhere c =
-    let searched : refuse_at (as_position c.first_early-early.result) Refusal.EventTooEarly ≡ check_by (bit c.args.rows.now) c.args.n c.args.order.now =  refuses_early (bit c.args.rows.now) c.args.n c.args.order.now c.is_complete.ensures (not-false _ c.if-not-is_complete.false-raw) (as_position c.first_early-early.result) c.first_early-early.ensures in
+    let searched : refuse_at (as_position c.first_early-early.result) Refusal.EventTooEarly ≡ check_by (bit c.args.rows.now) c.args.n c.args.order.now = refuses_early (bit c.args.rows.now) c.args.n c.args.order.now c.is_complete.ensures (not-false _ c.if-not-is_complete.false-raw) (as_position c.first_early-early.result) c.first_early-early.ensures in
     ap (λ e. refuse_at (as_position e) Refusal.EventTooEarly) (sym c.in-Nowhere.is) ∙ searched

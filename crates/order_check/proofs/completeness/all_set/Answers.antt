@@ -1,9 +1,7 @@
-use Prim.Native.Nat.{◌≤◌, ◌-◌}
 use native.Mathlib.Omega.{arith}
 use mathlib.Core.Path.{◌≡◌, refl, ap, ◌∙◌}
 use mathlib.Core.Bool.{false}
 use lib.ListN.{get_or}
-use borrow.Author.Rules.{rules}
 use Rattle.basics.specs.Searches.{all_below}
 use Rattle.basics.proofs.Searches.{all_more}
 use Rattle.order_check.proofs.completeness.all_set.Goals as goal

@@ -1,12 +1,9 @@
 -- The invariant: the flags below i are all set, or not, as `all` says.
 use Prim.Native.Nat.{◌≤◌, ◌-◌}
-use native.Mathlib.Omega.{arith}
-use mathlib.Core.Path.{◌≡◌, refl, ap, ◌∙◌}
+use mathlib.Core.Path.{◌≡◌}
 use mathlib.Core.Bool.{false}
 use lib.ListN.{get_or}
-use borrow.Author.Rules.{rules}
 use Rattle.basics.specs.Searches.{all_below}
-use Rattle.basics.proofs.Searches.{all_more}
 use Rattle.order_check.proofs.completeness.all_set.Given as goal
 
 abbrev pub invariant-loop-i : goal.invariant-loop-i

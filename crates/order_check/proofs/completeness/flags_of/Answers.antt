@@ -1,8 +1,7 @@
-use Prim.Native.Nat.{ℕ, ◌<◌, ◌≤◌, ◌-◌}
 use native.Mathlib.Omega.{arith}
-use mathlib.Core.Path.{◌≡◌, refl, sym, ap, ◌∙◌}
+use mathlib.Core.Path.{refl, sym, ap, ◌∙◌}
 use mathlib.Core.Bool.{false, ◌||◌, or-false}
-use lib.ListN.{length, get_or, drop, length-set, drop_of_length-le, get_or-replicate}
+use lib.ListN.{get_or, length-set, drop_of_length-le, get_or-replicate}
 use Rattle.basics.specs.Searches.{has}
 use Rattle.order_check.proofs.Flags.{flagged}
 use Rattle.order_check.proofs.completeness.flags_of.Goals as goal

@@ -1,11 +1,9 @@
 -- The invariant: what is flagged, or stands in the rest of the order, is what stands in the order.
 use Prim.Native.Nat.{ℕ, ◌<◌, ◌≤◌, ◌-◌}
-use native.Mathlib.Omega.{arith}
-use mathlib.Core.Path.{◌≡◌, refl, sym, ap, ◌∙◌}
-use mathlib.Core.Bool.{false, ◌||◌, or-false}
-use lib.ListN.{length, get_or, drop, length-set, drop_of_length-le, get_or-replicate}
+use mathlib.Core.Path.{◌≡◌}
+use mathlib.Core.Bool.{false, ◌||◌}
+use lib.ListN.{length, get_or, drop}
 use Rattle.basics.specs.Searches.{has}
-use Rattle.order_check.proofs.Flags.{flagged}
 use Rattle.order_check.proofs.completeness.flags_of.Given as goal
 
 abbrev pub invariant-loop-p : goal.invariant-loop-p

@@ -3,7 +3,6 @@ use mathlib.Core.Bool.{false, ◌&&◌}
 use native.Mathlib.Omega.{arith}
 use lib.Dec.{eqb}
 use lib.ListN.{length, get_or}
-use borrow.Author.Rules.{rules}
 use Rattle.basics.specs.Searches.{has}
 use Rattle.order_check.specs.Schedule.{complete}
 use Rattle.basics.proofs.Searches.{all_same}

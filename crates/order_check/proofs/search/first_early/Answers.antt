@@ -1,12 +1,9 @@
 use mathlib.Core.Path.{◌≡◌, refl, sym, ap, ◌∙◌}
-use Prim.Native.Nat.{◌+◌, ◌-◌, ◌<◌, ◌≤◌}
+use Prim.Native.Nat.{◌+◌, ◌<◌}
 use native.Mathlib.Omega.{arith}
-use lib.ListN.{drop, get_or}
+use lib.ListN.{get_or}
 use borrow.Author.Rules.{rules}
 use Rattle.basics.proofs.Booleans.{was}
-use Rattle.happens_before.specs.Inner.{bit}
-use Rattle.order_check.specs.Types.{Early}
-use Rattle.order_check.specs.Schedule.{early_from}
 use Rattle.order_check.specs.Inner.{as_position}
 use Rattle.order_check.proofs.SearchLaws.{PlacedBefore, HeldBelow}
 use Rattle.order_check.proofs.SearchLaws as walk
@@ -37,7 +34,7 @@ loop-w-preserved c = (search rules, c.loop-w.invariant.1, walk.word_passed _ _ c
 
 pub search-preserved : goal.search-preserved
 search-preserved c =
-    let now_placed : PlacedBefore c.args.order.now (c.search.p + 1) c.with-next.result =  walk.one_placed _ c.requires.order_of.0 c.search.placed c.with-next.result c.search.p c.search-test.true c.with-next.ensures c.search.invariant.3 in
+    let now_placed : PlacedBefore c.args.order.now (c.search.p + 1) c.with-next.result = walk.one_placed _ c.requires.order_of.0 c.search.placed c.with-next.result c.search.p c.search-test.true c.with-next.ensures c.search.invariant.3 in
     let last : c.loop-w.w ≡ 4 = search rules in (
       search rules,
       c.loop-w.invariant.1 ∙ c.search.invariant.1,
@@ -51,6 +48,6 @@ returns-after-search c = ap as_position c.search.invariant.1 ∙ sym (sym c.sear
 
 pub returns-then-lacks : goal.returns-then-lacks
 returns-then-lacks c =
-    let now_placed : PlacedBefore c.args.order.now (c.search.p + 1) c.with-next.result =  walk.one_placed _ c.requires.order_of.0 c.search.placed c.with-next.result c.search.p c.search-test.true c.with-next.ensures c.search.invariant.3 in
+    let now_placed : PlacedBefore c.args.order.now (c.search.p + 1) c.with-next.result = walk.one_placed _ c.requires.order_of.0 c.search.placed c.with-next.result c.search.p c.search-test.true c.with-next.ensures c.search.invariant.3 in
     sym (sym c.search.invariant.2 ∙ walk.early_here _ _ c.search.p c.search-test.true
     (walk.word_found _ _ c.requires.by_index _ _ _ (now_placed) c.loop-w.w (was c.lacks.ensures c.if-lacks.true)))

@@ -1,17 +1,12 @@
 -- The outer invariant: from place p on the search finds what it finds from the start, and just the events of earlier places are placed.
 -- The inner one: those of the first w words that must precede are placed.
-use mathlib.Core.Path.{◌≡◌, refl, sym, ap, ◌∙◌}
-use Prim.Native.Nat.{◌+◌, ◌-◌, ◌<◌, ◌≤◌}
-use native.Mathlib.Omega.{arith}
-use lib.ListN.{drop, get_or}
-use borrow.Author.Rules.{rules}
-use Rattle.basics.proofs.Booleans.{was}
+use mathlib.Core.Path.{◌≡◌}
+use Prim.Native.Nat.{◌-◌, ◌≤◌}
+use lib.ListN.{drop}
 use Rattle.happens_before.specs.Inner.{bit}
 use Rattle.order_check.specs.Types.{Early}
 use Rattle.order_check.specs.Schedule.{early_from}
-use Rattle.order_check.specs.Inner.{as_position}
 use Rattle.order_check.proofs.SearchLaws.{PlacedBefore, HeldBelow}
-use Rattle.order_check.proofs.SearchLaws as walk
 use Rattle.order_check.proofs.search.first_early.Given as goal
 
 abbrev pub invariant-loop-w : goal.invariant-loop-w

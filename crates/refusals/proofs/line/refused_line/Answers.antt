@@ -1,5 +1,4 @@
 use mathlib.Core.Path.{◌∙◌}
-use borrow.Author.Rules.{rules}
 use Rattle.refusals.specs.Refusals.{line_of}
 use Rattle.refusals.proofs.line.refused_line.Goals as goal
 

@@ -1,4 +1,3 @@
-
 use Rattle.refusals.proofs.refusal.refused_if.Goals as goal
 
 pub returns-then-found : goal.returns-then-found

@@ -1,13 +1,9 @@
 -- The invariant: `at` is the length of the lines of the events below i.
 use Prim.Native.Nat.{◌≤◌, ◌-◌}
-use native.Mathlib.Omega.{arith}
-use mathlib.Core.Path.{◌≡◌, refl, ap, ◌∙◌}
+use mathlib.Core.Path.{◌≡◌}
 use lib.ListN.{length}
-use borrow.Author.Rules.{rules}
-use Rattle.basics.proofs.Arrays.{length_mapped}
 use Rattle.replay_answers.specs.Answers.{answers_text}
 use Rattle.replay_answers.specs.Inner.{kept_at}
-use Rattle.replay_answers.proofs.AnswerLaws.{text_length, counted}
 use Rattle.replay_answers.proofs.answers.answers_length.Given as goal
 
 abbrev pub invariant-loop-i : goal.invariant-loop-i

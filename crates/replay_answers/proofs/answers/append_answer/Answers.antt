@@ -1,5 +1,4 @@
 use native.Mathlib.Omega.{arith}
-use borrow.Author.Rules.{rules}
 use Rattle.replay_answers.proofs.AnswerLaws.{answer_length, put_rest}
 use Rattle.replay_answers.proofs.answers.append_answer.Goals as goal
 

@@ -2,7 +2,6 @@
 -- Assumes nothing.
 use mathlib.Core.Path.{sym, ◌∙◌}
 use native.Mathlib.Omega.{arith}
-use borrow.Author.Rules.{rules}
 use Rattle.text_numbers.proofs.Writing.{put_none, put_then, print_length}
 use Rattle.replay_answers.proofs.AnswerLaws.{item_length, line_of_lem, no_line}
 use Rattle.replay_answers.proofs.answers.put_answer.Goals as goal

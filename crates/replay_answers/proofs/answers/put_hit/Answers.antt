@@ -1,7 +1,6 @@
 -- The item of a hit: its priority, how many entries fit at it and the action, each put behind the one before.
 -- Assumes nothing.
 use native.Mathlib.Omega.{arith}
-use borrow.Author.Rules.{rules}
 use Rattle.text_numbers.proofs.Writing.{put_then, print_length}
 use Rattle.replay_answers.specs.Answers.{print_item}
 use Rattle.replay_answers.proofs.answers.put_hit.Goals as goal

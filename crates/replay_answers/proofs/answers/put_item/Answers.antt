@@ -1,6 +1,5 @@
 -- The item of an answer, by its form.
 -- Assumes nothing.
-use borrow.Author.Rules.{rules}
 use Rattle.text_numbers.proofs.Writing.{put_none}
 use Rattle.replay_answers.specs.Answers.{print_item}
 use Rattle.replay_answers.proofs.answers.put_item.Goals as goal

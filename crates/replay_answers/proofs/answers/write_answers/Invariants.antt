@@ -1,15 +1,10 @@
 -- The invariant: the lines of the events below i are put.
 use Prim.Native.Nat.{◌≤◌, ◌-◌}
-use native.Mathlib.Omega.{arith}
-use mathlib.Core.Path.{◌≡◌, refl, subst, ◌∙◌}
+use mathlib.Core.Path.{◌≡◌}
 use lib.ListN.{length}
-use borrow.Author.Rules.{rules}
 use Rattle.text_numbers.specs.Inner.{Put}
-use Rattle.text_numbers.proofs.Writing.{put_none}
-use Rattle.basics.proofs.Arrays.{length_mapped}
 use Rattle.replay_answers.specs.Answers.{answers_text}
 use Rattle.replay_answers.specs.Inner.{kept_at}
-use Rattle.replay_answers.proofs.AnswerLaws.{text_length, text_rises, line_put}
 use Rattle.replay_answers.proofs.answers.write_answers.Given as goal
 
 abbrev pub invariant-loop-i : goal.invariant-loop-i

@@ -1,6 +1,5 @@
 use mathlib.Core.Path.{refl}
 use native.Mathlib.Omega.{arith}
-use borrow.Author.Rules.{rules}
 use Rattle.rows_step.proofs.answers.noted.Goals as goal
 
 pub returns-then-passes : goal.returns-then-passes

@@ -3,7 +3,6 @@ use mathlib.Core.Path.{refl}
 use native.Mathlib.Omega.{arith}
 use borrow.Author.Tests.{lt-ltb, le-ltb, eq-eqb, ne_eqb}
 use Rattle.rows_step.specs.Inner.{seen, seen_at}
-use borrow.Author.Rules.{rules}
 use Rattle.rows_step.proofs.answers.seen.Goals as goal
 
 pub returns-then-best-priority : goal.returns-then-best-priority

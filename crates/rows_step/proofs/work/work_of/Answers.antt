@@ -1,5 +1,4 @@
 use mathlib.Core.Path.{refl}
-use borrow.Author.Rules.{rules}
 use Rattle.rows_step.specs.Inner.{work_of}
 use Rattle.rows_step.proofs.work.work_of.Goals as goal
 

@@ -1,16 +1,15 @@
-use Prim.Native.Nat.{ℕ, ◌≤◌, ◌<◌, ◌+◌, ◌-◌}
+use Prim.Native.Nat.{ℕ, ◌<◌, ◌+◌}
 use native.Mathlib.Omega.{arith}
 use borrow.Author.Rules.{rules}
 use mathlib.Core.List.{[], ◌∷◌, ◌++◌}
 use mathlib.Core.Path.{◌≡◌, refl, sym, ◌∙◌, ap}
 use lib.ListN.{length, get_or, take, set, length-set}
-use Rattle.text_lines.specs.Lines.{lines, line_start}
+use Rattle.text_lines.specs.Lines.{lines}
 use Rattle.text_reader.proofs.Reading.{first_start, ends_next, ends_rise, ends_line}
-use Rattle.text_reader.proofs.Each.{Rest, rest_start, rest_end, rest_refused, rest_read}
+use Rattle.text_reader.proofs.Each.{rest_start, rest_end, rest_refused, rest_read}
 use Rattle.text_numbers.proofs.Readers.{seen}
 use Rattle.refusals.specs.Checks.{value_or}
 use Rattle.basics.proofs.Arrays.{length_mapped, pushed}
-use Rattle.tables_text.specs.TableText.{read_row_line}
 use Rattle.tables_text.specs.Inner.{as_row}
 use Rattle.tables_text.proofs.read.read_rows.Goals as goal
 

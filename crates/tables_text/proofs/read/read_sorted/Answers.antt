@@ -1,4 +1,3 @@
-use borrow.Author.Rules.{rules}
 use Rattle.tables_text.proofs.Checks.{line_refused, lines_read}
 use Rattle.tables_text.proofs.read.read_sorted.Goals as goal
 

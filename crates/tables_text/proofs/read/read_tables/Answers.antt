@@ -1,5 +1,4 @@
 use mathlib.Core.Path.{sym, ◌∙◌}
-use borrow.Author.Rules.{rules}
 use Rattle.text_lines.proofs.LimitLaws.{limit_within}
 use Rattle.tables_text.proofs.Checks.{tables_limited}
 use Rattle.tables_text.proofs.read.read_tables.Goals as goal

@@ -1,4 +1,3 @@
-use borrow.Author.Rules.{rules}
 use Rattle.refusals.proofs.Checks.{answered, or_refused}
 use Rattle.text_numbers.specs.Inner.{as_number}
 use Rattle.text_numbers.proofs.Readers.{seen, mapped_none, mapped_some, both_none, both_some}

@@ -1,5 +1,4 @@
 use native.Mathlib.Omega.{arith}
-use borrow.Author.Rules.{rules}
 use Rattle.basics.specs.Text.{bytes}
 use Rattle.text_numbers.specs.Inner.{as_number}
 use Rattle.text_numbers.proofs.Readers.{seen, mapped_none, mapped_some}

@@ -1,5 +1,4 @@
 use lib.Dec.{lit<}
-use borrow.Author.Rules.{rules}
 use Rattle.text_numbers.specs.Inner.{as_number, as_hex}
 use Rattle.text_numbers.proofs.Readers.{seen, mapped_none, mapped_some, both_none, both_some}
 use Rattle.text_numbers.proofs.Keys.{keyed_both}

@@ -1,5 +1,4 @@
 use mathlib.Core.Path.{refl}
-use borrow.Author.Rules.{rules}
 use Rattle.refusals.proofs.Checks.{or_refused, carried_on}
 use Rattle.text_numbers.proofs.Readers.{seen, both_none, both_some}
 use Rattle.text_fields.specs.Read.{read_fields, read_match}

@@ -1,4 +1,3 @@
-use borrow.Author.Rules.{rules}
 use Rattle.text_fields.proofs.matching.vlan_at.Goals as goal
 
 pub returns : goal.returns

@@ -1,6 +1,5 @@
 use mathlib.Core.Path.{sym, ◌∙◌}
 use native.Mathlib.Omega.{arith}
-use borrow.Author.Rules.{rules}
 use borrow.Author.Tests.{not-true, not-false}
 use Rattle.text_lines.proofs.LimitLaws.{too_long, unended, too_many, kept}
 use Rattle.text_lines.proofs.limits.limit_of.Goals as goal

@@ -1,4 +1,4 @@
-use Prim.Native.Nat.{◌-◌, ◌/◌}
+use Prim.Native.Nat.{◌/◌}
 use native.Mathlib.Omega.{arith}
 use Rattle.text_numbers.proofs.Print.{print_length}
 use Rattle.text_numbers.proofs.Writing.{number_small, number_big}

@@ -1,4 +1,3 @@
-use borrow.Author.Rules.{rules}
 use borrow.Author.Tests.{lt-ltb, le-ltb}
 use Rattle.text_numbers.specs.Print.{hex_digit}
 use Rattle.text_numbers.proofs.put.hex_digit.Goals as goal

@@ -1,12 +1,8 @@
 -- The invariant: the first i bytes are put.
 use Prim.Native.Nat.{◌≤◌, ◌-◌, ◌+◌}
-use mathlib.Core.Path.{◌≡◌, refl, ◌∙◌}
-use native.Mathlib.Nat.{add-zero}
-use native.Mathlib.Omega.{arith}
-use borrow.Author.Rules.{rules}
+use mathlib.Core.Path.{◌≡◌}
 use lib.ListN.{length, take}
 use Rattle.text_numbers.specs.Inner.{Put}
-use Rattle.text_numbers.proofs.Writing.{put_none, put_more, put_all}
 use Rattle.text_numbers.proofs.put.put_bytes.Given as goal
 
 abbrev pub invariant-loop-i : goal.invariant-loop-i

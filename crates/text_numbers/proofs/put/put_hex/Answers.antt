@@ -1,4 +1,3 @@
-use borrow.Author.Rules.{rules}
 use Rattle.text_numbers.specs.Print.{print_hex}
 use Rattle.text_numbers.proofs.put.put_hex.Goals as goal
 

@@ -1,5 +1,4 @@
 use mathlib.Core.Path.{sym, ◌∙◌}
-use borrow.Author.Rules.{rules}
 use Rattle.text_numbers.specs.Number.{hex_value}
 use Rattle.text_numbers.proofs.Numbers.{between, digit_range}
 use Rattle.text_numbers.proofs.read.hex_value.Goals as goal

@@ -1,10 +1,8 @@
-use Prim.Native.Nat.{◌≤◌, ◌-◌}
 use mathlib.Core.Bool.{true}
 use mathlib.Core.Path.{◌≡◌, refl, sym, ◌∙◌}
 use native.Mathlib.Omega.{arith}
-use borrow.Author.Rules.{rules}
-use lib.ListN.{length, drop, get_or}
-use Rattle.text_numbers.specs.Number.{is_digit, read_digits}
+use lib.ListN.{get_or}
+use Rattle.text_numbers.specs.Number.{is_digit}
 use Rattle.text_numbers.proofs.Numbers.{digit_range, digits_end, digits_stop, digits_over, digits_more}
 use Rattle.text_numbers.proofs.read.read_digits.Goals as goal
 

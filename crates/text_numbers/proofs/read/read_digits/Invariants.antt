@@ -1,12 +1,8 @@
 -- The invariant: the digits from i on, onto the value so far, read as all of them do from the start.
 use Prim.Native.Nat.{◌≤◌, ◌-◌}
-use mathlib.Core.Bool.{true}
-use mathlib.Core.Path.{◌≡◌, refl, sym, ◌∙◌}
-use native.Mathlib.Omega.{arith}
-use borrow.Author.Rules.{rules}
-use lib.ListN.{length, drop, get_or}
-use Rattle.text_numbers.specs.Number.{is_digit, read_digits}
-use Rattle.text_numbers.proofs.Numbers.{digit_range, digits_end, digits_stop, digits_over, digits_more}
+use mathlib.Core.Path.{◌≡◌}
+use lib.ListN.{length, drop}
+use Rattle.text_numbers.specs.Number.{read_digits}
 use Rattle.text_numbers.proofs.read.read_digits.Given as goal
 
 abbrev pub invariant-loop-i : goal.invariant-loop-i

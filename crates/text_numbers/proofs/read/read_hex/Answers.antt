@@ -1,9 +1,8 @@
-use Prim.Native.Nat.{◌≤◌, ◌<◌, ◌+◌, ◌-◌, ◌*◌, ◌^◌}
+use Prim.Native.Nat.{◌<◌, ◌+◌, ◌*◌, ◌^◌}
 use mathlib.Core.Path.{◌≡◌, refl, sym, ◌∙◌, ap}
 use native.Mathlib.Omega.{arith}
-use borrow.Author.Rules.{rules}
 use lib.ListN.{get_or}
-use Rattle.text_numbers.specs.Number.{hex_value, read_hex_digits, read_hex}
+use Rattle.text_numbers.specs.Number.{hex_value, read_hex}
 use Rattle.text_numbers.proofs.HexLaws.{hex_in, hex_end, hex_over, hex_more, hex_grows, hex_fits}
 use Rattle.text_numbers.proofs.read.read_hex.Goals as goal
 
@@ -18,12 +17,12 @@ returns-then-d-gt15 c =
 
 pub overflow_mul-v : goal.overflow_mul-v
 overflow_mul-v c =
-    let fits : c.loop-i.v * 16 + c.hex_value-d.result < 2 ^ 32 =  hex_fits _ _ _ c.loop-i.invariant.1 c.if-d-gt15.false c.loop-i-test.true in
+    let fits : c.loop-i.v * 16 + c.hex_value-d.result < 2 ^ 32 = hex_fits _ _ _ c.loop-i.invariant.1 c.if-d-gt15.false c.loop-i-test.true in
     omega (arith, fits)
 
 pub overflow_add-v : goal.overflow_add-v
 overflow_add-v c =
-    let fits : c.loop-i.v * 16 + c.hex_value-d.result < 2 ^ 32 =  hex_fits _ _ _ c.loop-i.invariant.1 c.if-d-gt15.false c.loop-i-test.true in
+    let fits : c.loop-i.v * 16 + c.hex_value-d.result < 2 ^ 32 = hex_fits _ _ _ c.loop-i.invariant.1 c.if-d-gt15.false c.loop-i-test.true in
     omega (arith, fits)
 
 pub overflow_add-n : goal.overflow_add-n

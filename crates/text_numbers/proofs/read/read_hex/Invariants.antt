@@ -1,11 +1,7 @@
 -- The invariant: the digits from n on, onto the value of the i before, read as all eight do from the start.
-use Prim.Native.Nat.{◌≤◌, ◌<◌, ◌+◌, ◌-◌, ◌*◌, ◌^◌}
-use mathlib.Core.Path.{◌≡◌, refl, sym, ◌∙◌, ap}
-use native.Mathlib.Omega.{arith}
-use borrow.Author.Rules.{rules}
-use lib.ListN.{get_or}
-use Rattle.text_numbers.specs.Number.{hex_value, read_hex_digits, read_hex}
-use Rattle.text_numbers.proofs.HexLaws.{hex_in, hex_end, hex_over, hex_more, hex_grows, hex_fits}
+use Prim.Native.Nat.{◌≤◌, ◌<◌, ◌-◌, ◌^◌}
+use mathlib.Core.Path.{◌≡◌}
+use Rattle.text_numbers.specs.Number.{read_hex_digits, read_hex}
 use Rattle.text_numbers.proofs.read.read_hex.Given as goal
 
 abbrev pub invariant-loop-i : goal.invariant-loop-i

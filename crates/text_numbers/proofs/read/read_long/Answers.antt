@@ -3,7 +3,6 @@
 use mathlib.Core.Bool.{true}
 use mathlib.Core.Path.{◌≡◌, sym, ◌∙◌}
 use native.Mathlib.Omega.{arith}
-use borrow.Author.Rules.{rules}
 use lib.ListN.{get_or}
 use Rattle.text_numbers.specs.Number.{is_digit}
 use Rattle.text_numbers.proofs.Readers.{tested}
@@ -18,14 +17,14 @@ overflow_add-next c =
 pub returns-then-is_digit-2 : goal.returns-then-is_digit-2
 returns-then-is_digit-2 c =
     let digit : is_digit (get_or c.args.s.now c.args.at 0) ≡ true = tested is_digit c.byte_at-first.ensures c.is_digit.ensures c.if-is_digit.true in
-    let zero : get_or c.args.s.now c.args.at 0 ≡ 48 =  omega (arith, c.byte_at-first.ensures, c.if-first-eq48.true, digit_range _ (digit)) in
+    let zero : get_or c.args.s.now c.args.at 0 ≡ 48 = omega (arith, c.byte_at-first.ensures, c.if-first-eq48.true, digit_range _ (digit)) in
     sym (number_lead _ _ _ (digit) (zero)
     (tested is_digit c.byte_at-second.ensures c.is_digit-then-first-eq48.ensures c.if-is_digit-2.true))
 
 pub returns-then-first-eq48 : goal.returns-then-first-eq48
 returns-then-first-eq48 c =
     let digit : is_digit (get_or c.args.s.now c.args.at 0) ≡ true = tested is_digit c.byte_at-first.ensures c.is_digit.ensures c.if-is_digit.true in
-    let zero : get_or c.args.s.now c.args.at 0 ≡ 48 =  omega (arith, c.byte_at-first.ensures, c.if-first-eq48.true, digit_range _ (digit)) in
+    let zero : get_or c.args.s.now c.args.at 0 ≡ 48 = omega (arith, c.byte_at-first.ensures, c.if-first-eq48.true, digit_range _ (digit)) in
     sym (number_zero _ _ _ (digit) (zero)
     (tested is_digit c.byte_at-second.ensures c.is_digit-then-first-eq48.ensures c.if-is_digit-2.false))
 

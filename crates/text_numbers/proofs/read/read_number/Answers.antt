@@ -1,6 +1,5 @@
 use mathlib.Core.Path.{sym}
 use native.Mathlib.Omega.{arith}
-use borrow.Author.Rules.{rules}
 use Rattle.text_numbers.specs.Inner.{as_long}
 use Rattle.text_numbers.proofs.Readers.{seen}
 use Rattle.text_numbers.proofs.Numbers.{number_only}

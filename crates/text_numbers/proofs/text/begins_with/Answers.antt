@@ -1,8 +1,5 @@
-use Prim.Native.Nat.{◌≤◌, ◌-◌}
-use mathlib.Core.Path.{◌≡◌, refl, sym, ◌∙◌}
+use mathlib.Core.Path.{refl, sym, ◌∙◌}
 use native.Mathlib.Omega.{arith}
-use lib.ListN.{length, drop}
-use Rattle.text_numbers.specs.Reading.{starts_with}
 use Rattle.text_numbers.proofs.Keys.{starts_short, starts_end, starts_other, starts_more}
 use Rattle.text_numbers.proofs.text.begins_with.Goals as goal
 

@@ -1,10 +1,8 @@
 -- The invariant: from i on the text begins with the rest of the key as it does with the whole from its start.
 use Prim.Native.Nat.{◌≤◌, ◌-◌}
-use mathlib.Core.Path.{◌≡◌, refl, sym, ◌∙◌}
-use native.Mathlib.Omega.{arith}
+use mathlib.Core.Path.{◌≡◌}
 use lib.ListN.{length, drop}
 use Rattle.text_numbers.specs.Reading.{starts_with}
-use Rattle.text_numbers.proofs.Keys.{starts_short, starts_end, starts_other, starts_more}
 use Rattle.text_numbers.proofs.text.begins_with.Given as goal
 
 abbrev pub invariant-loop-i : goal.invariant-loop-i

@@ -1,5 +1,4 @@
 use mathlib.Core.Path.{◌∙◌, ap}
-use borrow.Author.Rules.{rules}
 use Rattle.text_numbers.specs.Reading.{starts_with}
 use Rattle.text_numbers.proofs.text.starts_with.Goals as goal
 

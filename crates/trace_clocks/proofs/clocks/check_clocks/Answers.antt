@@ -1,4 +1,4 @@
-use Prim.Native.Nat.{◌+◌, ◌-◌, ◌≤◌, ◌<◌}
+use Prim.Native.Nat.{◌+◌, ◌-◌, ◌<◌}
 use mathlib.Core.Path.{◌≡◌, sym, ap, ◌∙◌}
 use native.Mathlib.Omega.{arith}
 use lib.ListN.{length}
@@ -8,8 +8,7 @@ use Rattle.trace_events.specs.Events.{events_of}
 use Rattle.trace_events.specs.Inner.{side_of}
 use Rattle.trace_events.proofs.TraceLaws.{length_events, event_at_lem}
 use Rattle.trace_clocks.specs.Types.{Event}
-use Rattle.trace_clocks.specs.Backward.{backward}
-use Rattle.trace_clocks.proofs.PassLaws.{side_at, Kept, kept_none, kept_more, kept_test, Passed, passed_none, passed_more, clocks_checked}
+use Rattle.trace_clocks.proofs.PassLaws.{side_at, kept_none, kept_more, kept_test, passed_none, passed_more, clocks_checked}
 use Rattle.trace_clocks.proofs.clocks.check_clocks.Goals as goal
 
 pub loop-i-init : goal.loop-i-init

@@ -1,16 +1,10 @@
 -- The invariant: of the lines from i on the code keeps what the time rule asks of them, and has their outcome.
-use Prim.Native.Nat.{◌+◌, ◌-◌, ◌≤◌, ◌<◌}
-use mathlib.Core.Path.{◌≡◌, sym, ap, ◌∙◌}
-use native.Mathlib.Omega.{arith}
+use Prim.Native.Nat.{◌≤◌}
+use mathlib.Core.Path.{◌≡◌}
 use lib.ListN.{length}
-use borrow.Author.Rules.{rules}
-use Rattle.basics.proofs.Arrays.{length_mapped}
 use Rattle.trace_events.specs.Events.{events_of}
-use Rattle.trace_events.specs.Inner.{side_of}
-use Rattle.trace_events.proofs.TraceLaws.{length_events, event_at_lem}
-use Rattle.trace_clocks.specs.Types.{Event}
 use Rattle.trace_clocks.specs.Backward.{backward}
-use Rattle.trace_clocks.proofs.PassLaws.{side_at, Kept, kept_none, kept_more, kept_test, Passed, passed_none, passed_more, clocks_checked}
+use Rattle.trace_clocks.proofs.PassLaws.{Kept, Passed}
 use Rattle.trace_clocks.proofs.clocks.check_clocks.Given as goal
 
 abbrev pub invariant-loop-i : goal.invariant-loop-i

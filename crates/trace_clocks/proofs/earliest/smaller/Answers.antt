@@ -1,4 +1,3 @@
-
 use Rattle.trace_clocks.proofs.earliest.smaller.Goals as goal
 
 pub returns-then-counts-to : goal.returns-then-counts-to

@@ -1,5 +1,4 @@
 use mathlib.Core.Path.{sym, ap, ◌∙◌}
-use borrow.Author.Rules.{rules}
 use Rattle.trace_events.specs.Events.{is_message}
 use Rattle.trace_events.proofs.barriers.is_message.Goals as goal
 

@@ -1,4 +1,3 @@
-use borrow.Author.Rules.{rules}
 use Rattle.trace_events.specs.Inner.{side_of}
 use Rattle.trace_events.proofs.side.side_of.Goals as goal
 

@@ -1,5 +1,4 @@
 use mathlib.Core.Path.{ap, ◌∙◌}
-use borrow.Author.Rules.{rules}
 use Rattle.refusals.proofs.Checks.{answered}
 use Rattle.text_numbers.proofs.Readers.{mapped_none, mapped_some, both_none, both_some}
 use Rattle.trace_head.specs.Inner.{as_head}

@@ -1,4 +1,3 @@
-use borrow.Author.Rules.{rules}
 use Rattle.text_numbers.specs.Inner.{as_number}
 use Rattle.text_numbers.proofs.Readers.{seen}
 use Rattle.trace_words.specs.Inner.{as_word}

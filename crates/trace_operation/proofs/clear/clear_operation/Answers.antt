@@ -1,5 +1,4 @@
 use mathlib.Core.Path.{sym, ap, ◌∙◌}
-use borrow.Author.Rules.{rules}
 use Rattle.trace_operation.specs.Operations.{clear_carried, clear_operation}
 use Rattle.trace_operation.proofs.clear.clear_operation.Goals as goal
 

@@ -1,4 +1,3 @@
-use borrow.Author.Rules.{rules}
 use Rattle.refusals.proofs.Checks.{answered, or_refused}
 use Rattle.text_numbers.proofs.Readers.{mapped_none, mapped_some}
 use Rattle.text_fields.specs.Inner.{as_key}

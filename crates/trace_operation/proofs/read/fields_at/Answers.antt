@@ -1,5 +1,4 @@
 use mathlib.Core.Path.{refl}
-use borrow.Author.Rules.{rules}
 use Rattle.trace_operation.specs.Operations.{read_on}
 use Rattle.trace_operation.proofs.OperationLaws.{arm_reads}
 use Rattle.trace_operation.proofs.read.fields_at.Goals as goal

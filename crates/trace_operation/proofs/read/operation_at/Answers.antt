@@ -1,5 +1,4 @@
 use lib.Dec.{lit<}
-use borrow.Author.Rules.{rules}
 use Rattle.refusals.proofs.Checks.{or_refused, carried_on}
 use Rattle.text_numbers.specs.Inner.{as_number}
 use Rattle.text_numbers.proofs.Readers.{seen}

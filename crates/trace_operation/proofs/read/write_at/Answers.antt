@@ -1,6 +1,5 @@
 use mathlib.Core.Option.{some}
 use mathlib.Core.Path.{◌∙◌, ap}
-use borrow.Author.Rules.{rules}
 use Rattle.refusals.proofs.Checks.{answered, or_refused}
 use Rattle.text_numbers.proofs.Readers.{mapped_none, mapped_some}
 use Rattle.text_fields.specs.Inner.{as_entry}

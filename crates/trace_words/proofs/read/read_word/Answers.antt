@@ -1,4 +1,3 @@
-use borrow.Author.Rules.{rules}
 use Rattle.trace_words.specs.Words.{read_word}
 use Rattle.trace_words.proofs.WordFormat.{word_before}
 use Rattle.trace_words.proofs.read.read_word.Goals as goal

@@ -1,6 +1,5 @@
 use mathlib.Core.Path.{refl}
 use native.Mathlib.Omega.{arith}
-use borrow.Author.Rules.{rules}
 use Rattle.text_numbers.proofs.Keys.{key_room, word_there, no_word_lem}
 use Rattle.trace_words.proofs.read.word_or.Goals as goal
 

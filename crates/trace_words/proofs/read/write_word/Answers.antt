@@ -1,4 +1,3 @@
-use borrow.Author.Rules.{rules}
 use Rattle.trace_words.proofs.WordFormat.{no_words, word_before}
 use Rattle.trace_words.proofs.read.write_word.Goals as goal
 

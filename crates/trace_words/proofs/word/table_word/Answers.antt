@@ -1,5 +1,4 @@
 use mathlib.Core.Path.{sym, ap}
-use borrow.Author.Rules.{rules}
 use Rattle.trace_words.specs.Words.{table_word}
 use Rattle.trace_words.proofs.word.table_word.Goals as goal
 

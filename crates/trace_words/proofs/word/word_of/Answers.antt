@@ -1,5 +1,4 @@
 use mathlib.Core.Path.{sym, ap, ◌∙◌}
-use borrow.Author.Rules.{rules}
 use Rattle.trace_words.specs.Types.{Word}
 use Rattle.trace_words.specs.Words.{word_of}
 use Rattle.trace_words.proofs.word.word_of.Goals as goal

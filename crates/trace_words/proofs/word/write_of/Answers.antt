@@ -1,4 +1,3 @@
-use borrow.Author.Rules.{rules}
 use Rattle.trace_words.proofs.word.write_of.Goals as goal
 
 pub returns-in-Add : goal.returns-in-Add

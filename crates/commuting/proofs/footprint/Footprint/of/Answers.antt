@@ -4,7 +4,6 @@ use Rattle.commuting.specs.Types.{Match, EffectKind}
 use Rattle.commuting.specs.Commuting.{at}
 use Rattle.commuting.specs.InnerFootprints.{printed}
 use Rattle.commuting.proofs.Forms.{in_form}
-use borrow.Author.Rules.{rules}
 use Rattle.commuting.proofs.footprint.Footprint.of.Goals as goal
 
 pub returns-in-Pkt : goal.returns-in-Pkt

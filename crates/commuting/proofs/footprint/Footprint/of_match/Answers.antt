@@ -1,6 +1,5 @@
 use mathlib.Core.Path.{ap}
 use Rattle.commuting.specs.Types.{Bits, Footprint}
-use borrow.Author.Rules.{rules}
 use Rattle.commuting.proofs.footprint.Footprint.of_match.Goals as goal
 
 pub returns : goal.returns

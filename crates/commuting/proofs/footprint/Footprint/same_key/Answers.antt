@@ -1,5 +1,4 @@
 use Rattle.commuting.specs.InnerFootprints.{same_key_by}
-use borrow.Author.Rules.{rules}
 use Rattle.commuting.proofs.footprint.Footprint.same_key.Goals as goal
 
 pub returns : goal.returns

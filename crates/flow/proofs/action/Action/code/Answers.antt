@@ -1,4 +1,3 @@
-use borrow.Author.Rules.{rules}
 use Rattle.flow.proofs.action.Action.code.Goals as goal
 
 pub returns-in-Port : goal.returns-in-Port

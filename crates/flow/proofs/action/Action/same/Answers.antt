@@ -1,5 +1,4 @@
 use Rattle.flow.specs.Entries.{same_action}
-use borrow.Author.Rules.{rules}
 use Rattle.flow.proofs.action.Action.same.Goals as goal
 
 pub returns : goal.returns

@@ -1,5 +1,4 @@
 use Rattle.flow.specs.Entries.{key_order}
-use borrow.Author.Rules.{rules}
 use Rattle.flow.proofs.entry.Key.order.Goals as goal
 
 pub returns : goal.returns

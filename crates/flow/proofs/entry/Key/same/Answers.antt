@@ -1,6 +1,5 @@
 use mathlib.Core.Path.{sym, ◌∙◌}
 use Rattle.flow.proofs.SameKey.{other_priority, one_priority}
-use borrow.Author.Rules.{rules}
 use Rattle.flow.proofs.entry.Key.same.Goals as goal
 
 pub returns-then-self-other : goal.returns-then-self-other

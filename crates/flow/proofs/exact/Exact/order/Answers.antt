@@ -1,4 +1,3 @@
-use borrow.Author.Rules.{rules}
 use Rattle.flow.proofs.exact.Exact.order.Goals as goal
 
 pub returns : goal.returns

@@ -1,4 +1,3 @@
-use borrow.Author.Rules.{rules}
 use Rattle.flow.proofs.exact.Exact.rank.Goals as goal
 
 pub returns-in-Is : goal.returns-in-Is

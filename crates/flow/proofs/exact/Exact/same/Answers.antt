@@ -1,4 +1,3 @@
-use borrow.Author.Rules.{rules}
 use Rattle.flow.proofs.exact.Exact.same.Goals as goal
 
 pub returns-in_default : goal.returns-in_default

@@ -1,5 +1,4 @@
 use Rattle.flow.specs.Matches.{clear}
-use borrow.Author.Rules.{rules}
 use Rattle.flow.proofs.matching.Match.is_clear.Goals as goal
 
 pub returns : goal.returns

@@ -1,7 +1,6 @@
 use mathlib.Core.Path.{◌∙◌, ap}
 use Rattle.flow.specs.Entries.{match_order, rank}
 use Rattle.flow.specs.Orders.{then_by}
-use borrow.Author.Rules.{rules}
 use Rattle.flow.proofs.matching.Match.order.Goals as goal
 
 pub returns : goal.returns

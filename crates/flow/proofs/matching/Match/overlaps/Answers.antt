@@ -1,5 +1,4 @@
 use Rattle.flow.specs.Matches.{overlaps}
-use borrow.Author.Rules.{rules}
 use Rattle.flow.proofs.matching.Match.overlaps.Goals as goal
 
 pub returns : goal.returns

@@ -1,5 +1,4 @@
 use Rattle.flow.specs.Inner.{same_match}
-use borrow.Author.Rules.{rules}
 use Rattle.flow.proofs.matching.Match.same.Goals as goal
 
 pub returns : goal.returns

@@ -1,5 +1,4 @@
 use Rattle.flow.specs.Matches.{within}
-use borrow.Author.Rules.{rules}
 use Rattle.flow.proofs.matching.Match.within.Goals as goal
 
 pub returns : goal.returns

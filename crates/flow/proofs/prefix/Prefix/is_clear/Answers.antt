@@ -1,4 +1,3 @@
-use borrow.Author.Rules.{rules}
 use Rattle.flow.proofs.prefix.Prefix.is_clear.Goals as goal
 
 pub returns : goal.returns

@@ -1,7 +1,6 @@
 use mathlib.Core.Path.{sym, ◌∙◌, ap}
 use Rattle.flow.specs.Inner.{same_leading}
 use Rattle.flow.proofs.PrefixField.{overlaps_shorter}
-use borrow.Author.Rules.{rules}
 use Rattle.flow.proofs.prefix.Prefix.overlaps.Goals as goal
 
 pub returns : goal.returns

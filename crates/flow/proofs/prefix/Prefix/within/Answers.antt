@@ -1,6 +1,5 @@
 use mathlib.Core.Path.{sym, ◌∙◌}
 use Rattle.flow.proofs.PrefixField.{within_shorter, within_longer}
-use borrow.Author.Rules.{rules}
 use Rattle.flow.proofs.prefix.Prefix.within.Goals as goal
 
 pub returns-then-self-other : goal.returns-then-self-other

@@ -1,4 +1,3 @@
-use borrow.Author.Rules.{rules}
 use Rattle.flow_bits.specs.Inner.{bits_overlap}
 use Rattle.flow_bits.proofs.matches.Bits.overlaps.Goals as goal
 

@@ -1,4 +1,3 @@
-use borrow.Author.Rules.{rules}
 use Rattle.flow_bits.specs.Inner.{bits_same}
 use Rattle.flow_bits.proofs.matches.Bits.same.Goals as goal
 

@@ -1,4 +1,3 @@
-use borrow.Author.Rules.{rules}
 use Rattle.flow_bits.specs.Inner.{bits_within}
 use Rattle.flow_bits.proofs.matches.Bits.within.Goals as goal
 

@@ -1,6 +1,5 @@
 use mathlib.Core.Path.{sym, subst}
 use Prim.Native.Nat.{◌+◌}
-use borrow.Author.Rules.{rules}
 use Rattle.flow_bits.specs.Inner.{InBits}
 use Rattle.flow_bits.proofs.Joined.{side_lt, beside_is, joined_in_bits}
 use Rattle.flow_bits.proofs.words.Word.beside.Goals as goal

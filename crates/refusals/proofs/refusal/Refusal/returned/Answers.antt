@@ -1,5 +1,4 @@
 use Rattle.refusals.proofs.Arms.{in_arm}
-use borrow.Author.Rules.{rules}
 use Rattle.refusals.proofs.refusal.Refusal.returned.Goals as goal
 
 pub returns-in-TraceTooLong : goal.returns-in-TraceTooLong

@@ -1,4 +1,3 @@
-use borrow.Author.Rules.{rules}
 use Rattle.refusals.specs.Refusals.{line_of}
 use Rattle.refusals.specs.Refused.{start_of, refused_as}
 use Rattle.refusals.proofs.refused.Refused.from.Goals as goal

@@ -1,6 +1,5 @@
 use Rattle.rows.specs.Rows.{passes}
 use Rattle.basics.proofs.Arrays.{by_arm}
-use borrow.Author.Rules.{rules}
 use Rattle.rows.proofs.filter.Filter.passes.Goals as goal
 
 pub returns-in-Same : goal.returns-in-Same

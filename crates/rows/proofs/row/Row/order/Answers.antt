@@ -1,5 +1,4 @@
 use Rattle.rows.specs.Rows.{row_order}
-use borrow.Author.Rules.{rules}
 use Rattle.rows.proofs.row.Row.order.Goals as goal
 
 pub returns : goal.returns

@@ -1,5 +1,4 @@
 use Rattle.rows.specs.Rows.{on_switch}
-use borrow.Author.Rules.{rules}
 use Rattle.rows.proofs.row.Row.passes.Goals as goal
 
 pub returns : goal.returns

@@ -1,5 +1,4 @@
 use mathlib.Core.Path.{refl}
-use borrow.Author.Rules.{rules}
 use Rattle.rows_search.specs.Inner.{narrowed_by}
 use Rattle.rows_search.proofs.searching.Search.narrowed.Goals as goal
 

@@ -1,5 +1,4 @@
 use mathlib.Core.Path.{refl}
-use borrow.Author.Rules.{rules}
 use Rattle.rows_search.proofs.searching.Search.room_in.Goals as goal
 
 pub returns-then-self : goal.returns-then-self

@@ -1,5 +1,4 @@
 use mathlib.Core.Path.{refl}
-use borrow.Author.Rules.{rules}
 use Rattle.rows_step.proofs.work.Change.treated.Goals as goal
 
 pub returns-in-Keep : goal.returns-in-Keep

@@ -1,4 +1,3 @@
-use borrow.Author.Rules.{rules}
 use Rattle.trace_clocks.specs.Inner.{kept_before}
 use Rattle.trace_clocks.proofs.earliest.Earliest.is_before.Goals as goal
 

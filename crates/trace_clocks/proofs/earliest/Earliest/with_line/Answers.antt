@@ -1,4 +1,3 @@
-use borrow.Author.Rules.{rules}
 use Rattle.trace_clocks.proofs.EarliestLaws.{before_more}
 use Rattle.trace_clocks.proofs.earliest.Earliest.with_line.Goals as goal
 

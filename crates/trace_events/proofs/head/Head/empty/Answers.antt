@@ -1,4 +1,3 @@
-use borrow.Author.Rules.{rules}
 use Rattle.trace_events.proofs.head.Head.empty.Goals as goal
 
 pub returns : goal.returns

@@ -1,4 +1,3 @@
-use borrow.Author.Rules.{rules}
 use Rattle.trace_events.specs.Precedence.{token_step}
 use Rattle.trace_events.proofs.head.Head.passes_to.Goals as goal
 

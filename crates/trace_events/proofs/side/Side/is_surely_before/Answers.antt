@@ -2,7 +2,6 @@ use native.Mathlib.Omega.{arith}
 use Prim.Native.Nat.{◌+◌}
 use mathlib.Core.Path.{sym}
 use mathlib.Core.Bool.{◌&&◌, ◌||◌}
-use borrow.Author.Rules.{rules}
 use borrow.Author.Tests.{le-ltb}
 use Rattle.basics.proofs.Booleans.{and_false_right}
 use Rattle.trace_events.specs.Inner.{side_later}

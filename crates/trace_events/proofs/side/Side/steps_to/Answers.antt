@@ -1,4 +1,3 @@
-use borrow.Author.Rules.{rules}
 use Rattle.trace_events.specs.Inner.{side_step}
 use Rattle.trace_events.proofs.side.Side.steps_to.Goals as goal
 

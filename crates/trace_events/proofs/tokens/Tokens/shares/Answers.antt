@@ -1,4 +1,3 @@
-use borrow.Author.Rules.{rules}
 use Rattle.trace_events.specs.Events.{tokens_of}
 use Rattle.trace_events.proofs.TokenLaws.{shares_tested}
 use Rattle.trace_events.proofs.tokens.Tokens.shares.Goals as goal

@@ -1,5 +1,4 @@
 use mathlib.Core.Path.{ap}
-use borrow.Author.Rules.{rules}
 use lib.ListN.{replicate}
 use Rattle.trace_events.specs.Types.{Head, Operation, Trace}
 use Rattle.trace_events.specs.Events.{no_trace}

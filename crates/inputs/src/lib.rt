@@ -1,5 +1,6 @@
 // A trace and tables read for a call that takes both.
 #![tactic(auto)]
+
 ghost use Rattle.std.specs.Prelude.{[], ◌≡◌, ◌≤◌};
 ghost use Rattle.refusals.specs.Checks.{value_or};
 ghost use Rattle.trace_events.specs.Events.{events_of};

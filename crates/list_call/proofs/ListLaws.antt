@@ -13,7 +13,6 @@ use Rattle.trace_text.specs.Inner.{as_trace}
 use Rattle.list_pairs.specs.List.{list_of, pair_bytes, Listing, listing_of}
 use Rattle.list_pairs.specs.Inner.{HoldsList}
 use Rattle.list_pairs.proofs.Made.{counts_are, list_is}
-use Rattle.basics.specs.Text.{starting_with}
 use Rattle.list_call.specs.Types.{Event, Counts, Refusal, ListAnswer, Outcome, TraceRead}
 use Rattle.list_call.specs.Races.{list_races, list_answer, list_out}
 use Rattle.list_call.specs.Inner.{fitted, Lists}

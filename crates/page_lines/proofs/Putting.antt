@@ -1,5 +1,5 @@
 -- The parts of a line, put at a place of a buffer. Assumes nothing.
-use Prim.Native.Nat.{ℕ, ◌+◌, ◌≤◌}
+use Prim.Native.Nat.{ℕ}
 use mathlib.Core.Path.{◌≡◌, sym, subst}
 use mathlib.Core.List.{List}
 use Rattle.text_numbers.specs.Inner.{Put}

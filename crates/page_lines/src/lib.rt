@@ -1,5 +1,6 @@
 // The line of a listed pair on the page.
 #![tactic(auto)]
+
 pub mod line; // what it says
 pub mod put; // how it says it
 

@@ -1,5 +1,6 @@
 // The page of a trace: a line for each listed pair, then the four counts.
 #![tactic(auto)]
+
 pub mod counts;
 pub mod pairs;
 

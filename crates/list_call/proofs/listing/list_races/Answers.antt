@@ -1,5 +1,4 @@
 use Rattle.list_call.proofs.ListLaws.{call_refused, call_accepted}
-use borrow.Author.Rules.{rules}
 use Rattle.list_call.proofs.listing.list_races.Goals as goal
 
 pub returns-in-Refused : goal.returns-in-Refused

@@ -6,7 +6,6 @@ use mathlib.Core.List.{List, ◌++◌}
 use lib.ListN.{drop}
 use lib.Seq.{length-take-le}
 use Rattle.list_call.proofs.ListLaws.{list_short, list_done}
-use borrow.Author.Rules.{rules}
 use Rattle.list_call.proofs.listing.put_list.Goals as goal
 
 -- The list is made in a buffer of its own, so that nothing is written before its length is known.

@@ -2,7 +2,6 @@
 use native.Mathlib.Omega.{arith}
 use Rattle.text_numbers.proofs.Writing.{put_then, put_one}
 use Rattle.list_report.specs.Report.{counts_line}
-use borrow.Author.Rules.{rules}
 use Rattle.list_report.proofs.printing.put_counts.Goals as goal
 
 -- The four counts, one behind another: each place is that of its count.

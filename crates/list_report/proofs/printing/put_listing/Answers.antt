@@ -5,7 +5,6 @@ use lib.Seq.{length-take-le}
 use Rattle.text_numbers.proofs.Writing.{put_then}
 use Rattle.list_pairs.proofs.Made.{list_fits}
 use Rattle.list_report.proofs.Printed.{list_put}
-use borrow.Author.Rules.{rules}
 use Rattle.list_report.proofs.printing.put_listing.Goals as goal
 
 -- The list is made in a buffer of its own, and printed from there.

@@ -1,7 +1,6 @@
 use native.Mathlib.Omega.{arith}
 use Rattle.text_numbers.proofs.Writing.{put_then, put_one}
 use Rattle.list_report.specs.Report.{race_line}
-use borrow.Author.Rules.{rules}
 use Rattle.list_report.proofs.printing.put_race.Goals as goal
 
 pub returns : goal.returns

@@ -1,11 +1,8 @@
-use Prim.Native.Nat.{ℕ, ◌*◌, ◌-◌, ◌≤◌}
 use native.Mathlib.Omega.{arith}
-use mathlib.Core.Path.{◌≡◌, refl}
-use mathlib.Core.List.{List, [], ◌++◌}
-use lib.ListN.{length, drop}
-use Rattle.text_numbers.specs.Inner.{Put}
+use mathlib.Core.Path.{refl}
+use mathlib.Core.List.{[]}
 use Rattle.text_numbers.proofs.Writing.{put_none, put_length}
-use Rattle.list_report.specs.Report.{race_line, race_lines}
+use Rattle.list_report.specs.Report.{race_line}
 use Rattle.list_pairs.proofs.EachPair.{pairs_turn, pairs_done}
 use Rattle.list_report.proofs.printing.put_races.Goals as goal
 

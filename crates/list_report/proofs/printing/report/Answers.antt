@@ -1,5 +1,4 @@
 use Rattle.list_report.proofs.Printed.{accepted_put, refused_put}
-use borrow.Author.Rules.{rules}
 use Rattle.list_report.proofs.printing.report.Goals as goal
 
 pub returns-in-Refused : goal.returns-in-Refused

@@ -1,5 +1,4 @@
 use Rattle.page_call.proofs.PageLaws.{ranged, call_refused, call_accepted}
-use borrow.Author.Rules.{rules}
 use Rattle.page_call.proofs.paging.page.Goals as goal
 
 pub put_page-requires : goal.put_page-requires

@@ -5,7 +5,6 @@ use lib.Seq.{length-take-le}
 use Rattle.list_pairs.proofs.Made.{events_most, list_is, list_fits}
 use Rattle.page_text.proofs.Inside.{list_inside}
 use Rattle.page_call.proofs.PageLaws.{page_short, page_done}
-use borrow.Author.Rules.{rules}
 use Rattle.page_call.proofs.paging.put_page.Goals as goal
 
 -- The list is made in a buffer of its own, so that nothing is written before the page's length is known.

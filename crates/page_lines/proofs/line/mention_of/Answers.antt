@@ -1,5 +1,4 @@
 use Rattle.page_lines.specs.PairLines.{mention_of}
-use borrow.Author.Rules.{rules}
 use Rattle.page_lines.proofs.line.mention_of.Goals as goal
 
 pub returns : goal.returns

@@ -1,5 +1,4 @@
 use Rattle.page_lines.specs.PairLines.{pair_line_of}
-use borrow.Author.Rules.{rules}
 use Rattle.page_lines.proofs.line.pair_line.Goals as goal
 
 pub returns : goal.returns

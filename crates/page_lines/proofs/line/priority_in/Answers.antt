@@ -1,6 +1,5 @@
 use mathlib.Core.Path.{sym, ap}
 use Rattle.page_lines.specs.PairLines.{priority_in}
-use borrow.Author.Rules.{rules}
 use Rattle.page_lines.proofs.line.priority_in.Goals as goal
 
 pub returns-in-Entry : goal.returns-in-Entry

@@ -1,6 +1,5 @@
 use mathlib.Core.Path.{sym, ap, ◌∙◌}
 use Rattle.page_lines.specs.PairLines.{priority_in, priority_of}
-use borrow.Author.Rules.{rules}
 use Rattle.page_lines.proofs.line.priority_of.Goals as goal
 
 pub returns-in-Table : goal.returns-in-Table

@@ -1,6 +1,5 @@
 use native.Mathlib.Omega.{arith}
 use Rattle.page_lines.proofs.Made.{line_made}
-use borrow.Author.Rules.{rules}
 use Rattle.page_lines.proofs.put.made_line.Goals as goal
 
 pub put_in_two-requires : goal.put_in_two-requires

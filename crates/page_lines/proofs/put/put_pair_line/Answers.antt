@@ -1,5 +1,4 @@
 use Rattle.page_lines.proofs.Made.{line_put}
-use borrow.Author.Rules.{rules}
 use Rattle.page_lines.proofs.put.put_pair_line.Goals as goal
 
 pub returns : goal.returns

@@ -3,7 +3,6 @@ use Rattle.page_columns.specs.Columns.{right}
 use Rattle.page_lines.specs.Types.{Priority}
 use Rattle.page_lines.specs.PairLines.{priority_text}
 use Rattle.page_lines.proofs.Putting.{arm_put}
-use borrow.Author.Rules.{rules}
 use Rattle.page_lines.proofs.put.put_priority.Goals as goal
 
 pub returns-in-Absent : goal.returns-in-Absent

@@ -2,7 +2,6 @@ use Rattle.page_columns.specs.Columns.{left}
 use Rattle.trace_words.specs.Words.{word_text}
 use Rattle.page_lines.specs.Types.{Word}
 use Rattle.page_lines.proofs.Putting.{arm_put}
-use borrow.Author.Rules.{rules}
 use Rattle.page_lines.proofs.put.put_word.Goals as goal
 
 pub returns-in-Other : goal.returns-in-Other

@@ -2,7 +2,6 @@ use Rattle.page_columns.specs.Columns.{left}
 use Rattle.trace_words.specs.Words.{switch_word_text}
 use Rattle.page_lines.specs.Types.{SwitchWord, Write}
 use Rattle.page_lines.proofs.Putting.{arm_put}
-use borrow.Author.Rules.{rules}
 use Rattle.page_lines.proofs.put.put_write.Goals as goal
 
 pub returns-in-Add : goal.returns-in-Add

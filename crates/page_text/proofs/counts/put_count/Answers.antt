@@ -2,7 +2,6 @@ use native.Mathlib.Omega.{arith}
 use mathlib.Core.Path.{refl}
 use Rattle.text_numbers.proofs.Writing.{put_then, put_one}
 use Rattle.page_text.proofs.Putting.{count_put}
-use borrow.Author.Rules.{rules}
 use Rattle.page_text.proofs.counts.put_count.Goals as goal
 
 pub returns : goal.returns

@@ -1,5 +1,4 @@
 use Rattle.page_text.proofs.Putting.{line_then, last_line}
-use borrow.Author.Rules.{rules}
 use Rattle.page_text.proofs.counts.put_counts.Goals as goal
 
 pub returns : goal.returns

@@ -1,16 +1,12 @@
-use Prim.Native.Nat.{ℕ, ◌+◌, ◌*◌, ◌-◌, ◌<◌, ◌≤◌}
+use Prim.Native.Nat.{◌+◌, ◌<◌}
 use native.Mathlib.Omega.{arith}
-use mathlib.Core.Path.{◌≡◌, refl}
-use mathlib.Core.List.{List, [], ◌++◌}
-use lib.ListN.{length, drop, get_or}
+use mathlib.Core.Path.{refl}
+use mathlib.Core.List.{[]}
+use lib.ListN.{get_or}
 use Rattle.basics.proofs.Arrays.{length_mapped}
-use Rattle.text_numbers.specs.Inner.{Put}
 use Rattle.text_numbers.proofs.Writing.{put_none, put_length}
-use Rattle.trace_events.specs.Events.{events_of, event_at}
-use Rattle.trace_line.specs.Written.{EventInRange}
-use Rattle.list_pairs.specs.List.{each_pair}
+use Rattle.trace_events.specs.Events.{events_of}
 use Rattle.list_pairs.proofs.EachPair.{pairs_turn, pairs_done}
-use Rattle.page_text.specs.Types.{Trace}
 use Rattle.page_text.specs.Inner.{line_of_pair, pairs_text}
 use Rattle.page_text.proofs.Turns.{line_range, line_made}
 use borrow.Author.Rules.{rules}
@@ -50,11 +46,10 @@ bounds-t-higher c =
     high
 
 pub put_pair_line-at-requires : goal.put_pair_line-at-requires
-put_pair_line-at-requires c =
-    (
-      omega arith,
-      line_range c.args.t c.args.list.now c.loop-i.i (c.loop-i.invariant.3.2 c.loop-i.i (omega arith)) (c.loop-i.invariant.3.2 (c.loop-i.i + 1) (omega arith)) c.pair_line-line.ensures c.loop-i.invariant.3.0 c.loop-i.invariant.3.3,
-    )
+put_pair_line-at-requires c = (
+  omega arith,
+  line_range c.args.t c.args.list.now c.loop-i.i (c.loop-i.invariant.3.2 c.loop-i.i (omega arith)) (c.loop-i.invariant.3.2 (c.loop-i.i + 1) (omega arith)) c.pair_line-line.ensures c.loop-i.invariant.3.0 c.loop-i.invariant.3.3,
+)
 
 pub loop-i-preserved : goal.loop-i-preserved
 loop-i-preserved c =

@@ -1,20 +1,14 @@
 -- The invariant: what was written and the lines of the rest are the whole.
-use Prim.Native.Nat.{ℕ, ◌+◌, ◌*◌, ◌-◌, ◌<◌, ◌≤◌}
-use native.Mathlib.Omega.{arith}
-use mathlib.Core.Path.{◌≡◌, refl}
-use mathlib.Core.List.{List, [], ◌++◌}
+use Prim.Native.Nat.{ℕ, ◌*◌, ◌-◌, ◌<◌, ◌≤◌}
+use mathlib.Core.Path.{◌≡◌}
+use mathlib.Core.List.{List, ◌++◌}
 use lib.ListN.{length, drop, get_or}
-use Rattle.basics.proofs.Arrays.{length_mapped}
 use Rattle.text_numbers.specs.Inner.{Put}
-use Rattle.text_numbers.proofs.Writing.{put_none, put_length}
 use Rattle.trace_events.specs.Events.{events_of, event_at}
 use Rattle.trace_line.specs.Written.{EventInRange}
 use Rattle.list_pairs.specs.List.{each_pair}
-use Rattle.list_pairs.proofs.EachPair.{pairs_turn, pairs_done}
 use Rattle.page_text.specs.Types.{Trace}
-use Rattle.page_text.specs.Inner.{line_of_pair, pairs_text}
-use Rattle.page_text.proofs.Turns.{line_range, line_made}
-use borrow.Author.Rules.{rules}
+use Rattle.page_text.specs.Inner.{line_of_pair}
 use Rattle.page_text.proofs.pairs.put_pairs.Given as goal
 
 -- each byte of the list is an event of the trace, and these are in range

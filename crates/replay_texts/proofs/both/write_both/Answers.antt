@@ -1,5 +1,4 @@
 use Rattle.replay_texts.proofs.Leaving.{tables_short, answers_short, both_written}
-use borrow.Author.Rules.{rules}
 use Rattle.replay_texts.proofs.both.write_both.Goals as goal
 
 pub returns-then-out-tables_need : goal.returns-then-out-tables_need

@@ -1,5 +1,4 @@
 use native.Mathlib.Omega.{arith}
-use borrow.Author.Rules.{rules}
 use lib.ListN.{length-take}
 use Rattle.rows.specs.Rows.{rows_of}
 use Rattle.tables_normal.proofs.Normalising.{put_short, put_fits, put_uncounted}

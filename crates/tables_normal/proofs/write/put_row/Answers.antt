@@ -1,5 +1,4 @@
 use native.Mathlib.Omega.{arith}
-use borrow.Author.Rules.{rules}
 use Rattle.text_numbers.proofs.Writing.{put_then, print_length}
 use Rattle.text_put_fields.proofs.Lengths.{entry_length}
 use Rattle.tables_text.specs.TableText.{print_row}

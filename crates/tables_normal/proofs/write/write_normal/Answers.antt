@@ -1,12 +1,9 @@
-use Prim.Native.Nat.{◌≤◌, ◌-◌, ◌*◌}
 use mathlib.Core.Path.{◌≡◌, refl, ◌∙◌}
 use native.Mathlib.Omega.{arith}
 use borrow.Author.Rules.{rules}
-use lib.ListN.{length, take}
-use Rattle.text_numbers.specs.Inner.{Put}
+use lib.ListN.{length}
 use Rattle.text_numbers.proofs.Writing.{put_length}
 use Rattle.basics.proofs.Arrays.{length_mapped}
-use Rattle.tables_normal.specs.Normal.{normal_text}
 use Rattle.tables_normal.proofs.Writing.{normal_none, normal_more, normal_all, put_from, line_room}
 use Rattle.tables_normal.proofs.write.write_normal.Goals as goal
 

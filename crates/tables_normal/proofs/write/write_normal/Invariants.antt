@@ -1,14 +1,9 @@
 -- The invariant: the lines of the first i rows are put.
 use Prim.Native.Nat.{◌≤◌, ◌-◌, ◌*◌}
-use mathlib.Core.Path.{◌≡◌, refl, ◌∙◌}
-use native.Mathlib.Omega.{arith}
-use borrow.Author.Rules.{rules}
+use mathlib.Core.Path.{◌≡◌}
 use lib.ListN.{length, take}
 use Rattle.text_numbers.specs.Inner.{Put}
-use Rattle.text_numbers.proofs.Writing.{put_length}
-use Rattle.basics.proofs.Arrays.{length_mapped}
 use Rattle.tables_normal.specs.Normal.{normal_text}
-use Rattle.tables_normal.proofs.Writing.{normal_none, normal_more, normal_all, put_from, line_room}
 use Rattle.tables_normal.proofs.write.write_normal.Given as goal
 
 abbrev pub invariant-loop-i : goal.invariant-loop-i

@@ -1,4 +1,3 @@
-use borrow.Author.Rules.{rules}
 use Rattle.trace_text.proofs.Checks.{events_checked, lines_refused, events_refused, events_passed}
 use Rattle.trace_text.proofs.text.read_events.Goals as goal
 

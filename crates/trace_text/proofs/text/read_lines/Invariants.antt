@@ -1,20 +1,11 @@
 -- The invariant: the next line starts at `from`, and the events so far and those of the lines from line k on are those of the text.
-use Prim.Native.Nat.{ℕ, ◌≤◌, ◌<◌, ◌+◌, ◌-◌}
-use native.Mathlib.Omega.{arith}
-use borrow.Author.Rules.{rules}
-use mathlib.Core.List.{[], ◌∷◌, ◌++◌}
-use mathlib.Core.Path.{◌≡◌, refl, sym, ◌∙◌, ap}
-use lib.ListN.{length, get_or, take, set, length-set}
+use Prim.Native.Nat.{◌≤◌, ◌-◌}
+use mathlib.Core.Path.{◌≡◌}
+use lib.ListN.{length}
 use Rattle.text_lines.specs.Lines.{lines, line_start}
-use Rattle.text_reader.proofs.Reading.{first_start, ends_next, ends_rise, ends_line}
-use Rattle.text_reader.proofs.Each.{Rest, rest_start, rest_end, rest_refused, rest_read}
-use Rattle.text_numbers.proofs.Readers.{seen}
-use Rattle.refusals.specs.Checks.{value_or}
+use Rattle.text_reader.proofs.Each.{Rest}
 use Rattle.trace_events.specs.Events.{events_of}
-use Rattle.trace_events.proofs.TraceLaws.{none_yet, room_yet}
-use Rattle.basics.proofs.Arrays.{length_mapped, pushed}
 use Rattle.trace_line.specs.EventLine.{read_event}
-use Rattle.trace_line.specs.Inner.{as_event}
 use Rattle.trace_text.proofs.text.read_lines.Given as goal
 
 abbrev pub invariant-loop-k : goal.invariant-loop-k

@@ -1,5 +1,4 @@
 use mathlib.Core.Path.{sym, ◌∙◌}
-use borrow.Author.Rules.{rules}
 use Rattle.text_lines.proofs.LimitLaws.{limit_within}
 use Rattle.trace_text.proofs.Checks.{limited}
 use Rattle.trace_text.proofs.text.read_trace.Goals as goal

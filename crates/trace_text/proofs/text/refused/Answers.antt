@@ -1,6 +1,5 @@
 use mathlib.Core.Path.{refl}
 use native.Mathlib.Omega.{arith}
-use borrow.Author.Rules.{rules}
 use Rattle.trace_events.proofs.TraceLaws.{none_yet}
 use Rattle.trace_text.proofs.text.refused.Goals as goal
 

@@ -1,13 +1,8 @@
 -- The invariant: the array has what the lines before k put out.
 use Prim.Native.Nat.{ℕ, ◌-◌, ◌≤◌, ◌<◌}
-use mathlib.Core.Path.{◌≡◌, refl, sym, ap}
-use native.Mathlib.Omega.{arith}
-use lib.ListN.{length, length-set, get_or}
-use borrow.Author.Rules.{rules}
+use mathlib.Core.Path.{◌≡◌}
+use lib.ListN.{length, get_or}
 use Rattle.trace_events.specs.Events.{events_of, event_at, no_tokens}
-use Rattle.basics.proofs.Arrays.{length_mapped, noted_more}
-use Rattle.trace_events.proofs.TraceLaws.{event_at_lem}
-use Rattle.trace_text.specs.Types.{Event}
 use Rattle.trace_text.proofs.tokens.all_outs.Given as goal
 
 abbrev pub invariant-loop-k : goal.invariant-loop-k

@@ -1,16 +1,13 @@
-use Prim.Native.Nat.{◌-◌, ◌≤◌}
+use Prim.Native.Nat.{◌≤◌}
 use mathlib.Core.Path.{◌≡◌, refl, ◌∙◌, ap}
 use native.Mathlib.Omega.{arith}
 use lib.ListN.{length}
 use borrow.Author.Rules.{rules}
-use Rattle.trace_events.specs.Events.{tokens_of, events_of}
 use Rattle.trace_events.proofs.TraceLaws.{length_events}
 use Rattle.basics.proofs.Arrays.{length_mapped}
-use Rattle.trace_text.specs.Types.{Refusal}
 use Rattle.basics.specs.Searches.{lowest}
-use Rattle.trace_text.specs.TraceText.{puts_out, twice, taken_early}
-use Rattle.refusals.proofs.Checks.{placed}
-use Rattle.trace_text.proofs.TokenChecks.{puts_none, puts_more, outs_in, twice_test, early_test, placed_more, tokens_checked}
+use Rattle.trace_text.specs.TraceText.{puts_out}
+use Rattle.trace_text.proofs.TokenChecks.{puts_none, puts_more, twice_test, early_test, placed_more, tokens_checked}
 use Rattle.trace_text.proofs.tokens.check_tokens.Goals as goal
 
 pub loop-k-init : goal.loop-k-init

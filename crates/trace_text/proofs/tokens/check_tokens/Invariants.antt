@@ -1,18 +1,14 @@
 -- The outer invariant: the outcomes are those of the lowest lines below k. The inner: whether one of the lines searched so far puts out one
 -- of the tokens.
 use Prim.Native.Nat.{◌-◌, ◌≤◌}
-use mathlib.Core.Path.{◌≡◌, refl, ◌∙◌, ap}
-use native.Mathlib.Omega.{arith}
+use mathlib.Core.Path.{◌≡◌}
 use lib.ListN.{length}
-use borrow.Author.Rules.{rules}
 use Rattle.trace_events.specs.Events.{tokens_of, events_of}
-use Rattle.trace_events.proofs.TraceLaws.{length_events}
-use Rattle.basics.proofs.Arrays.{length_mapped}
 use Rattle.trace_text.specs.Types.{Refusal}
 use Rattle.basics.specs.Searches.{lowest}
 use Rattle.trace_text.specs.TraceText.{puts_out, twice, taken_early}
 use Rattle.refusals.proofs.Checks.{placed}
-use Rattle.trace_text.proofs.TokenChecks.{puts_none, puts_more, outs_in, twice_test, early_test, placed_more, tokens_checked}
+use Rattle.trace_text.proofs.TokenChecks.{outs_in}
 use Rattle.trace_text.proofs.tokens.check_tokens.Given as goal
 
 abbrev pub invariant-loop-i : goal.invariant-loop-i

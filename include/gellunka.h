@@ -1,7 +1,7 @@
 /*
  * Gellunka: a proved checker for OpenFlow rehearsals.
  *
- * Link with target/staticlib/libexports.a, which `rt staticlib exports` builds.
+ * Link with target/staticlib/libexports.a, which `tools/build exports` builds.
  *
  * What is promised of each call below is proved of its source (crates/exports); "document 01" is the
  * specification, docs/SPECIFICATION.md. It holds for every input, so nothing is asked of the bytes that

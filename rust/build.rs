@@ -1,4 +1,4 @@
-//! Links the static library that `rt staticlib exports` writes, from `target/staticlib` of the repository or
+//! Links the static library that `tools/build exports` writes, from `target/staticlib` of the repository or
 //! from the folder that GELLUNKA_LIB names.
 
 use std::path::PathBuf;
@@ -11,7 +11,7 @@ fn main() {
     let library = folder.join("libexports.a");
     assert!(
         library.exists(),
-        "{} is missing: run `rt staticlib exports` at the repository's root",
+        "{} is missing: run `tools/build exports` at the repository's root",
         library.display()
     );
     println!("cargo:rerun-if-changed={}", library.display());

@@ -1,7 +1,7 @@
 //! How long the proved library and the programs take, against the reference, on worst cases.
 //!
 //! ```text
-//! rt staticlib exports && cd tests && cargo --offline build --release
+//! tools/build && cd tests && cargo --offline build --release
 //! target/release/benchmark [BIN]
 //! target/release/benchmark alone proved|peer ROW
 //! ```

@@ -16,7 +16,11 @@ pub fn program(name: &str) -> Command {
     let folder = std::env::var_os("GELLUNKA_BIN")
         .map_or_else(|| Path::new(env!("CARGO_MANIFEST_DIR")).join("../../target/bin"), PathBuf::from);
     let path = folder.join(name);
-    assert!(path.exists(), "{} is missing: run `rt check {name}` at the repository's root", path.display());
+    assert!(
+        path.exists(),
+        "{} is missing: run `tools/build {name}` at the repository's root",
+        path.display()
+    );
     Command::new(path)
 }
 

@@ -1,5 +1,6 @@
 // The calls for other programs: the answer of each call, as numbers.
 #![tactic(auto)]
+
 ghost use Rattle.std.specs.Prelude.{◌≡◌, length};
 ghost use Rattle.refusals.specs.Checks.{written};
 ghost use Rattle.exports_values.specs.Values.{list_as, normal_as, page_as, replay_as, share_as, trials_as};

@@ -1,5 +1,6 @@
 // The commuting share of a trace: the public call.
 #![tactic(auto)]
+
 ghost use Rattle.std.specs.Prelude.{◌≡◌, ◌≤◌};
 ghost use Rattle.trace_events.specs.Events.{events_of};
 ghost use Rattle.list_pairs.specs.List.{counts_of};

@@ -107,9 +107,9 @@ impl Vectors {
         let tables = text_of(&self.tables_test, "hall_typed_anew");
         files.push(stored("normalise", "stdout", normalised(&tables)));
         files.push(stored("normalise", "stdin", tables));
-        for (crate_name, cases) in [("list_test", &self.list_test), ("tables_test", &self.tables_test)] {
+        for cases in [&self.list_test, &self.tables_test] {
             let named = cases.iter().filter(|case| case.kind == Kind::Named);
-            files.extend(named.map(|case| example(crate_name, case)));
+            files.extend(named.map(example));
         }
         let rehearsals = self.list_test.iter().filter(|case| case.kind == Kind::Named);
         files.extend(rehearsals.flat_map(|case| [example_page(case), example_share(case)]));
@@ -182,11 +182,10 @@ fn stored(crate_name: &str, name: &str, bytes: Vec<u8>) -> File {
     File { path: format!("crates/{crate_name}/{name}"), title, content: Content::Bytes(bytes) }
 }
 
-/// A link to the data file.
-fn example(crate_name: &str, case: &Case) -> File {
+/// A copy of the data file: the gate takes no links.
+fn example(case: &Case) -> File {
     let path = format!("examples/{}", case.name);
-    let target = format!("../crates/{crate_name}/data/{}", case.name);
-    File { path, title: case.title.clone(), content: Content::Link(target) }
+    File { path, title: case.title.clone(), content: Content::Bytes(case.bytes()) }
 }
 
 /// The page of a trace among the examples.

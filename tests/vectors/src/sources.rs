@@ -11,8 +11,9 @@ pub fn program_faults(source: &str, cases: &[Case]) -> Vec<String> {
     let count = number_between(source, "const CASES: u8 = ", ";");
     let named = cases.iter().filter(|case| case.kind == Kind::Named);
     let names: Vec<&str> = named.map(|case| case.name.as_str()).collect();
-    let source = &source.replace("(&rt, ", "(rt, ");
-    let run: Vec<&str> = all_between(source, "run(rt, b\"", "\")").collect();
+    let name_in =
+        |call: &'_ str| -> Option<String> { Some(call.split_once("b\"")?.1.strip_suffix('"')?.to_owned()) };
+    let run: Vec<String> = all_between(source, " run(", ");").filter_map(name_in).collect();
     let mut faults = count_fault("CASES", count, numbered);
     if run != names {
         faults.push(format!("runs the files {run:?}, the cases have {names:?}"));
@@ -95,10 +96,12 @@ mod tests {
     #[test]
     fn counts_and_names() {
         let cases = cases("file hall\nfile stand\ncase first\ncase second");
-        let source = "const CASES: u8 = 2;\n    run(rt, b\"hall\");\n    run(&rt, b\"stand\");\n";
+        let source = "const CASES: u8 = 2;\n    run(b\"hall\");\n    run(b\"stand\");\n";
         assert!(program_faults(source, &cases).is_empty());
+        let with_handle = "const CASES: u8 = 2;\n    run(rt, b\"hall\");\n    run(&rt, b\"stand\");\n";
+        assert!(program_faults(with_handle, &cases).is_empty());
         assert_eq!(program_faults(&source.replace('2', "3"), &cases), ["CASES is 3, the cases are 2"]);
-        assert_eq!(program_faults("run(rt, b\"hall\")", &cases).len(), 2);
+        assert_eq!(program_faults("run(b\"hall\")", &cases).len(), 2);
         assert!(array_faults("const PAIRS: [[u32; 8]; 26] = [", "PAIRS", 26).is_empty());
         assert_eq!(
             array_faults("const PAIRS: [u32; 25] = [", "PAIRS", 26),

@@ -5,7 +5,7 @@ use native.Mathlib.Numerals.{add-one}
 use mathlib.Core.Path.{◌≡◌, refl, sym, ap, ◌∙◌}
 use mathlib.Core.Bool.{Bool, true, false, ◌&&◌, false≢true, true≢false, or-true}
 use mathlib.Core.Logic.{◌↔◌, ⊎_elim}
-use mathlib.Core.Option.{Option, none, some}
+use Rattle.std.specs.Prelude.{Option, None, Some}
 use mathlib.Core.List.Memᴰ
 use mathlib.Core.List.{List, [], ◌∷◌, Memᴰ}
 use native.Mathlib.Omega.{arith}
@@ -96,8 +96,8 @@ all_of p (suc n) h = and_intro (all_of p n (λ i l. h i (omega arith))) (h n (om
 -- what a search with a test finds, said of what the test stands for
 module _ (P : ℕ → Type 0) (p : ℕ → Bool) (iff : (j : ℕ) → (p j ≡ true) ↔ P j) where
   abbrev Says : ℕ → Option ℕ → Type 0
-  Says n none = (j : ℕ) → j < n → P j → ⊥
-  Says n (some j) = Lowest P n j
+  Says n None = (j : ℕ) → j < n → P j → ⊥
+  Says n (Some j) = Lowest P n j
 
   says : (n : ℕ) → Says n (lowest p n)
   unfolding lowest
@@ -105,34 +105,34 @@ module _ (P : ℕ → Type 0) (p : ℕ → Bool) (iff : (j : ℕ) → (p j ≡ t
   says (suc n) = go (lowest p n) (says n)
     where
       go : (x : Option ℕ) → Says n x → Says (suc n) (or_else x (p n) n)
-      go (some j) w = let h = w.inside in record { inside = omega arith; here = w.here; none_lower = w.none_lower }
-      go none w = split (p n)
+      go (Some j) w = let h = w.inside in record { inside = omega arith; here = w.here; none_lower = w.none_lower }
+      go None w = split (p n)
           (λ e. rw e (record { inside = omega arith; here = (iff n).0 e; none_lower = w }))
           (λ e. rw e (λ j l v. split (eqb j n)
           (λ u. true≢false (sym ((iff j).1 v) ∙ ap p (eqb-true j n u) ∙ e))
           (λ u. let d = eqb-false j n u in w j (omega arith) v)))
 
   module _ (n : ℕ) where
-    pub lowest_found : (j : ℕ) → lowest p n ≡ some j → Lowest P n j
+    pub lowest_found : (j : ℕ) → lowest p n ≡ Some j → Lowest P n j
     lowest_found j h = rw h at (says n)
 
-    pub lowest_none : lowest p n ≡ none → (j : ℕ) → j < n → P j → ⊥
+    pub lowest_none : lowest p n ≡ None → (j : ℕ) → j < n → P j → ⊥
     lowest_none h = rw h at (says n)
 
-    pub lowest_absent : ((j : ℕ) → j < n → P j → ⊥) → lowest p n ≡ none
+    pub lowest_absent : ((j : ℕ) → j < n → P j → ⊥) → lowest p n ≡ None
     lowest_absent h = go (lowest p n) refl (says n)
       where
-        go : (x : Option ℕ) → lowest p n ≡ x → Says n x → lowest p n ≡ none
-        go none e w = e
-        go (some j) e w = absurd (h j w.inside w.here)
+        go : (x : Option ℕ) → lowest p n ≡ x → Says n x → lowest p n ≡ None
+        go None e w = e
+        go (Some j) e w = absurd (h j w.inside w.here)
 
 -- ---- the lowest number below n that passes a test
-pub lowest_nowhere : (p : ℕ → Bool) (n : ℕ) → ((j : ℕ) → j < n → p j ≡ false) → lowest p n ≡ none
+pub lowest_nowhere : (p : ℕ → Bool) (n : ℕ) → ((j : ℕ) → j < n → p j ≡ false) → lowest p n ≡ None
 unfolding lowest
 lowest_nowhere p zero h = refl
 lowest_nowhere p (suc n) h = rw (lowest_nowhere p n (λ j l. h j (omega arith)), h n (omega arith))
 
-pub lowest_at : (p : ℕ → Bool) (n k : ℕ) → k < n → p k ≡ true → ((j : ℕ) → j < k → p j ≡ false) → lowest p n ≡ some k
+pub lowest_at : (p : ℕ → Bool) (n k : ℕ) → k < n → p k ≡ true → ((j : ℕ) → j < k → p j ≡ false) → lowest p n ≡ Some k
 unfolding lowest
 lowest_at p zero k l t f = absurd (omega arith)
 lowest_at p (suc n) k l t f =
@@ -142,7 +142,7 @@ lowest_at p (suc n) k l t f =
     (eq-or-lt_of_le (le_of_suc-le-suc l))
 
 -- the lowest is found exactly where it is
-pub lowest_iff : (P : ℕ → Type 0) (p : ℕ → Bool) → ((j : ℕ) → (p j ≡ true) ↔ P j) → (n j : ℕ) → (lowest p n ≡ some j) ↔ Lowest P n j
+pub lowest_iff : (P : ℕ → Type 0) (p : ℕ → Bool) → ((j : ℕ) → (p j ≡ true) ↔ P j) → (n j : ℕ) → (lowest p n ≡ Some j) ↔ Lowest P n j
 lowest_iff P p iff n j = (
   lowest_found P p iff n j,
   λ l. lowest_at p n j l.inside ((iff j).1 l.here) (λ k h. split (p k) (λ e. absurd (l.none_lower k h ((iff k).0 e))) (λ e. e)),

@@ -1,6 +1,5 @@
 -- Searches through the numbers below a bound and through lists.
-use Rattle.std.specs.Prelude.{Bool, true, false, ◌&&◌, ◌||◌, cond, List, [], ◌∷◌, ◌++◌, ℕ, zero, suc, ◌+◌, ◌<◌, eqb}
-use Rattle.std.proofs.Math.Option.{Option, none, some}
+use Rattle.std.specs.Prelude.{Bool, true, false, ◌&&◌, ◌||◌, cond, List, [], ◌∷◌, ◌++◌, ℕ, zero, suc, ◌+◌, ◌<◌, eqb, Option, None, Some}
 
 -- the number stands in the list
 abbrev pub has : ℕ → List ℕ → Bool
@@ -28,12 +27,12 @@ all_below p (suc n) = all_below p n && p n
 
 -- what was found, or else n where the test says yes of it
 abbrev pub or_else : Option ℕ → Bool → ℕ → Option ℕ
-or_else (some j) test n = some j
-or_else none test n = cond test (some n) none
+or_else (Some j) test n = Some j
+or_else None test n = cond test (Some n) None
 
 -- the lowest number below n that passes the test
 unfoldable pub lowest : (ℕ → Bool) → ℕ → Option ℕ
-lowest p zero = none
+lowest p zero = None
 lowest p (suc n) = or_else (lowest p n) (p n) n
 
 -- one element or none

@@ -1,63 +1,79 @@
 -- Sets in words: each word of a new set, one number more, the empty set. Of any number of words. Assumes nothing.
-use Prim.Native.Nat.{ℕ, zero, suc, ◌*◌, ◌/◌, ◌%◌, ◌^◌, ◌<◌, ◌≤◌}
-use native.Mathlib.Decide.{ℕ_discrete}
+use Prim.Native.Nat.{ℕ, zero, ◌+◌, ◌-◌, ◌*◌, ◌/◌, ◌%◌, ◌^◌, ◌<◌, ◌≤◌}
+use native.Mathlib.Decide.{ℕ_discrete, dec_lt}
 use native.Mathlib.Omega.{arith}
-use mathlib.Core.Path.{◌≡◌, refl, sym, ap, ◌∙◌}
-use mathlib.Core.List.{List, [], ◌∷◌}
-use mathlib.Core.Bool.{Bool, true, false, not, ◌&&◌, ◌||◌, cond, or_comm}
+use mathlib.Core.Path.{◌≡◌, refl, sym, ap, ap₂, ◌∙◌}
+use mathlib.Core.List.{List, []}
+use mathlib.Core.Bool.{Bool, false, not, ◌&&◌, ◌||◌, or_comm}
 use lib.Dec.{eqb}
-use lib.ListN.{length, get_or, set, get_or-eq_default}
+use lib.ListN.{length, get_or, set, length-set, replicate, length-replicate, get_or-replicate, get_or-eq_default}
 use lib.Seq.{get_or-set_same, get_or-set_other}
 use lib.Pow.{shl_exact}
-use lib.Bits.{bit_and, bit_or, bit_xor}
+use lib.Bits.{bit_and, bit_or}
 use borrow.Author.Tests.{eq-eqb, ne_eqb}
 use Rattle.bit_sets.specs.Inner.{word_bit, member}
-use Rattle.bit_sets.proofs.BitLaws.{bit_and_lem, bit_or_lem, bit_xor_lem, bit_pow, bit_zero}
+use Rattle.bit_sets.proofs.BitLaws.{bit_and_lem, bit_or_lem, bit_not_lem, bit_pow, bit_zero}
 
--- ---- sets made word by word
--- f 0, f 1, .., f (n - 1)
-abbrev pub words_of : (ℕ → ℕ) → ℕ → List ℕ
-words_of f zero = []
-words_of f (suc n) = f 0 ∷ words_of (λ w. f (suc w)) n
+-- ---- a set whose words an operation makes of those of two sets, word for word
+pub record WordByWord (op : ℕ → ℕ → ℕ) (a b r : List ℕ) (n : ℕ) : Type 0 where
+  pub first : length a ≡ n
+  pub second : length b ≡ n
+  pub size : length r ≡ n
+  pub each : (w : ℕ) → w < n → get_or r w 0 ≡ op (get_or a w 0) (get_or b w 0)
 
-word_of_lem : (f : ℕ → ℕ) (n : ℕ) → ((w : ℕ) → n ≤ w → f w ≡ 0) → (w : ℕ) → get_or (words_of f n) w 0 ≡ f w
-word_of_lem f zero h w = sym (h w (omega arith))
-word_of_lem f (suc n) h zero = refl
-word_of_lem f (suc n) h (suc w) = word_of_lem (λ v. f (suc v)) n (λ v l. h (suc v) (omega arith)) w
+-- the words below w are such, the others are still those of the first set
+pub record WordsBelow (op : ℕ → ℕ → ℕ) (a b r : List ℕ) (n w : ℕ) : Type 0 where
+  pub first : length a ≡ n
+  pub second : length b ≡ n
+  pub size : length r ≡ n
+  pub each : (v : ℕ) → v < w → get_or r v 0 ≡ op (get_or a v 0) (get_or b v 0)
+  pub rest : (v : ℕ) → w ≤ v → get_or r v 0 ≡ get_or a v 0
 
-past : (a : List ℕ) (n w : ℕ) → length a ≡ n → n ≤ w → get_or a w 0 ≡ 0
-past a n w e l = get_or-eq_default a 0 {n = w} (omega arith)
+module _ (op : ℕ → ℕ → ℕ) (a b : List ℕ) (n : ℕ) where
+  pub no_words : length a ≡ n → length b ≡ n → WordsBelow op a b a n 0
+  no_words f s = record { first = f; second = s; size = f; each = λ v l. absurd (omega arith); rest = λ v l. refl }
 
--- a set whose words an operation makes of those of two sets
-module _ (op : ℕ → ℕ → ℕ) (test : Bool → Bool → Bool) (zeros : op 0 0 ≡ 0) (bit : (x y k : ℕ) → word_bit (op x y) k ≡ test (word_bit x k) (word_bit y k)) where
-  each_word : (a b : List ℕ) (n : ℕ) → length a ≡ n → length b ≡ n → (k : ℕ)
-      → member (words_of (λ w. op (get_or a w 0) (get_or b w 0)) n) k ≡ test (member a k) (member b k)
+  module _ (r : List ℕ) (w : ℕ) (h : WordsBelow op a b r n w) where
+    pub word_more : w < n → WordsBelow op a b (set r w (op (get_or r w 0) (get_or b w 0))) n (w + 1)
+    word_more l = record {
+      first = h.first;
+      second = h.second;
+      size = rw length-set h.size;
+      each = λ v m. elim (ℕ_discrete v w) [
+        | yes e ↦ rw (e, get_or-set_same r w (op (get_or r w 0) (get_or b w 0)) 0 (omega (arith, h.size)), h.rest w (omega arith)) refl
+        | no ne ↦ get_or-set_other r w v (op (get_or r w 0) (get_or b w 0)) 0 ne ∙ h.each v (omega (arith, ne))
+      ];
+      rest = λ v m. get_or-set_other r w v (op (get_or r w 0) (get_or b w 0)) 0 (λ e. omega (arith, e)) ∙ h.rest v (omega arith);
+    }
+
+    pub all_words : n ≤ w → WordByWord op a b r n
+    all_words l = record { first = h.first; second = h.second; size = h.size; each = λ v m. h.each v (omega arith) }
+
+past : (a : List ℕ) (n k : ℕ) → length a ≡ n → n ≤ k / 64 → member a k ≡ false
+unfolding member
+past a n k e l = rw (get_or-eq_default a 0 {n = k / 64} (omega arith)) (bit_zero (k % 64))
+
+module _ (op : ℕ → ℕ → ℕ) (test : Bool → Bool → Bool) (zeros : test false false ≡ false) (b : List ℕ)
+    (bit : (x w k : ℕ) → k < 64 → word_bit (op x (get_or b w 0)) k ≡ test (word_bit x k) (word_bit (get_or b w 0) k)) (a r : List ℕ) (n : ℕ) (h : WordByWord op a b r n) where
+  each_word : (k : ℕ) → member r k ≡ test (member a k) (member b k)
   unfolding member
-  each_word a b n ha hb k =
-      ap (λ (x : ℕ). word_bit x (k % 64)) (word_of_lem (λ w. op (get_or a w 0) (get_or b w 0)) n (λ w l. simp (past a n w ha l, past b n w hb l, zeros)) (k / 64))
-      ∙ bit (get_or a (k / 64) 0) (get_or b (k / 64) 0) (k % 64)
+  each_word k = elim (dec_lt (k / 64) n) [
+    | yes l ↦ rw (h.each (k / 64) l) (bit (get_or a (k / 64) 0) (k / 64) (k % 64) (omega arith))
+    | no m ↦ past r n k h.size (omega arith) ∙ sym zeros ∙ sym (ap₂ test (past a n k h.first (omega arith)) (past b n k h.second (omega arith)))
+  ]
 
-pub or_member : (a b : List ℕ) (n : ℕ) → length a ≡ n → length b ≡ n → (k : ℕ)
-    → member (words_of (λ w. bit_or (get_or a w 0) (get_or b w 0)) n) k ≡ (member a k || member b k)
-or_member = each_word bit_or (λ p q. p || q) refl bit_or_lem
+pub or_member : (a b r : List ℕ) (n : ℕ) → WordByWord bit_or a b r n → (k : ℕ) → member r k ≡ (member a k || member b k)
+or_member a b = each_word bit_or (λ p q. p || q) refl b (λ x w k l. bit_or_lem x (get_or b w 0) k) a
 
-pub and_member : (a b : List ℕ) (n : ℕ) → length a ≡ n → length b ≡ n → (k : ℕ)
-    → member (words_of (λ w. bit_and (get_or a w 0) (get_or b w 0)) n) k ≡ (member a k && member b k)
-and_member = each_word bit_and (λ p q. p && q) refl bit_and_lem
+pub and_member : (a b r : List ℕ) (n : ℕ) → WordByWord bit_and a b r n → (k : ℕ) → member r k ≡ (member a k && member b k)
+and_member a b = each_word bit_and (λ p q. p && q) refl b (λ x w k l. bit_and_lem x (get_or b w 0) k) a
 
-pub xor_member : (a b : List ℕ) (n : ℕ) → length a ≡ n → length b ≡ n → (k : ℕ)
-    → member (words_of (λ w. bit_xor (get_or a w 0) (get_or b w 0)) n) k ≡ cond (member a k) (not (member b k)) (member b k)
-xor_member = each_word bit_xor (λ p q. cond p (not q) q) refl bit_xor_lem
-
--- a set less what it shares with another
-less : (p q : Bool) → cond p (not (p && q)) (p && q) ≡ (p && not q)
-less true q = refl
-less false q = refl
-
-pub without_member : (a b s : List ℕ) (n : ℕ) → length a ≡ n → length s ≡ n → ((k : ℕ) → member s k ≡ (member a k && member b k)) → (k : ℕ)
-    → member (words_of (λ w. bit_xor (get_or a w 0) (get_or s w 0)) n) k ≡ (member a k && not (member b k))
-without_member a b s n ha hs h k =
-    xor_member a s n ha hs k ∙ ap (λ (q : Bool). cond (member a k) (not q) q) (h k) ∙ less (member a k) (member b k)
+pub without_member : (a b r : List ℕ) (n : ℕ) → ((w : ℕ) → get_or b w 0 < 2 ^ 64) → WordByWord (λ (x y : ℕ). bit_and x (18446744073709551615 - y)) a b r n
+    → (k : ℕ) → member r k ≡ (member a k && not (member b k))
+without_member a b r n l =
+    each_word (λ (x y : ℕ). bit_and x (18446744073709551615 - y)) (λ p q. p && not q) refl b
+    (λ x w k h. bit_and_lem x (18446744073709551615 - get_or b w 0) k ∙ ap (λ q. word_bit x k && q) (bit_not_lem 64 (get_or b w 0) k (l w) h))
+    a r n
 
 -- ---- one number more
 eqb_split : (j k : ℕ) → k / 64 ≡ j / 64 → eqb (k % 64) (j % 64) ≡ eqb k j
@@ -87,14 +103,24 @@ with_member words j l k =
     one = shl_exact {a = 1} 1 (j % 64) 64 (omega arith) (omega arith) ∙ omega arith
 
 -- ---- the empty set, and no words at all
-pub member_none : (n k : ℕ) → member (words_of (λ w. 0) n) k ≡ false
-unfolding member
-member_none n k = ap (λ (x : ℕ). word_bit x (k % 64)) (word_of_lem (λ w. 0) n (λ w l. refl) (k / 64)) ∙ bit_zero (k % 64)
-
 pub member_nil : (k : ℕ) → member [] k ≡ false
-member_nil k = member_none 0 k
+unfolding member
+member_nil k = bit_zero (k % 64)
+
+pub member_none : (n k : ℕ) → member (replicate n 0) k ≡ false
+unfolding member
+member_none n k = ap (λ (x : ℕ). word_bit x (k % 64)) (zero_at (dec_lt (k / 64) n)) ∙ bit_zero (k % 64)
+  where
+    zero_at : Dec (k / 64 < n) → get_or (replicate n zero) (k / 64) 0 ≡ zero
+    zero_at (yes l) = get_or-replicate n (k / 64) zero 0 l
+    zero_at (no m) = get_or-eq_default (replicate n zero) 0 {n = k / 64} (omega (arith, length-replicate n zero))
 
 -- ---- the numbers of one word
 pub member_in : (words : List ℕ) (w k : ℕ) → k / 64 ≡ w → member words k ≡ word_bit (get_or words w 0) (k % 64)
 unfolding member
 member_in words w k e = ap (λ (v : ℕ). word_bit (get_or words v 0) (k % 64)) e
+
+-- there are no numbers past the words
+pub member_past : (words : List ℕ) (k : ℕ) → 64 * length words ≤ k → member words k ≡ false
+unfolding member
+member_past words k l = ap (λ (x : ℕ). word_bit x (k % 64)) (get_or-eq_default words 0 {n = k / 64} (omega arith)) ∙ bit_zero (k % 64)

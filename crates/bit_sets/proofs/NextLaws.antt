@@ -6,13 +6,14 @@ use native.Mathlib.Omega.{arith}
 use mathlib.Core.Path.{◌≡◌, refl, sym, ap, ◌∙◌}
 use mathlib.Core.List.{List}
 use mathlib.Core.Bool.{true, false, true≢false}
-use lib.ListN.{get_or}
+use lib.ListN.{length, get_or}
 use lib.Pow.{shr_le}
 use lib.Count.{count_trailing_zeros, under}
 use borrow.Author.Tests.{eq-eqb, ne_eqb}
 use Rattle.bit_sets.specs.Inner.{word_bit, member, NextBit, NextFrom}
+use Rattle.std.specs.Prelude.{Some, None}
 use Rattle.bit_sets.proofs.BitLaws.{bit_first, bit_half, bit_down, bit_zero, bit_past}
-use Rattle.bit_sets.proofs.Members.{member_in}
+use Rattle.bit_sets.proofs.Members.{member_in, member_past}
 
 -- ---- the zeros below the lowest 1
 -- a word that is not 0 has a 1 there
@@ -43,55 +44,49 @@ bit_from x from k l = ap (word_bit x) (omega arith) ∙ sym (bit_down x from (k 
 below_length : (x m k : ℕ) → x < 2 ^ m → word_bit x k ≡ true → k < m
 below_length x m k l e = elim (dec_lt k m) [ yes h ↦ h | no h ↦ absurd (true≢false (sym e ∙ bit_past x m k l (omega arith))) ]
 
-pub no_bit : (x from : ℕ) → from < 64 → x / 2 ^ from ≡ 0 → NextBit x from 64
-no_bit x from l e = record {
-  after = omega arith;
-  inside = omega arith;
-  here = λ h. absurd (omega arith);
-  skipped = λ k s h. bit_from x from k s ∙ ap (λ (y : ℕ). word_bit y (k - from)) e ∙ bit_zero (k - from);
-}
+pub no_bit : (x from : ℕ) → x / 2 ^ from ≡ 0 → NextBit x from None
+no_bit x from e k s = bit_from x from k s ∙ ap (λ (y : ℕ). word_bit y (k - from)) e ∙ bit_zero (k - from)
 
-pub some_bit : (x from : ℕ) → x < 2 ^ 64 → (x / 2 ^ from ≡ 0 → ⊥) → NextBit x from (from + count_trailing_zeros 64 (x / 2 ^ from))
+pub some_bit : (x from : ℕ) → x < 2 ^ 64 → (x / 2 ^ from ≡ 0 → ⊥) → NextBit x from (Some (from + count_trailing_zeros 64 (x / 2 ^ from)))
 some_bit x from l n =
     let rest : ℕ = x / 2 ^ from in
     let one : word_bit x (from + count_trailing_zeros 64 rest) ≡ true = sym (bit_down x from (count_trailing_zeros 64 rest)) ∙ lowest_one 64 rest (omega arith) (lt_of_le_of_lt (shr_le x from) l) in
-    let low : from + count_trailing_zeros 64 rest < 64 = below_length x 64 (from + count_trailing_zeros 64 rest) l one in
     record {
       after = omega arith;
-      inside = omega arith;
-      here = λ h. one;
+      inside = below_length x 64 (from + count_trailing_zeros 64 rest) l one;
+      here = one;
       skipped = λ k s h. bit_from x from k s ∙ zeros_below 64 rest (k - from) (omega arith);
     }
 
 -- ---- a set
--- no member from a number on before i
-pub record Passed (words : List ℕ) (from i : ℕ) : Type 0 where
-  pub start : from ≤ i
-  pub bound : i ≤ 512
-  pub clear : (k : ℕ) → from ≤ k → k < i → member words k ≡ false
+-- no member from a number on before a place of word w; the words before are passed over
+pub record Passed (words : List ℕ) (from w place : ℕ) : Type 0 where
+  pub start : from ≤ 64 * w + place
+  pub inside : place < 64
+  pub clear : (k : ℕ) → from ≤ k → k < 64 * w + place → member words k ≡ false
 
-pub passed_none : (words : List ℕ) (from : ℕ) → from ≤ 512 → Passed words from from
-passed_none words from l = record { start = omega arith; bound = l; clear = λ k s h. absurd (omega arith) }
+pub passed_none : (words : List ℕ) (from : ℕ) → Passed words from (from / 64) (from % 64)
+passed_none words from = record { start = omega arith; inside = omega arith; clear = λ k s h. absurd (omega arith) }
 
-module _ (words : List ℕ) (from i r : ℕ) (p : Passed words from i) (l : i < 512) (b : NextBit (get_or words (i / 64) 0) (i % 64) r) where
-  -- the numbers of i's word below its lowest bit
-  more_passed : (j : ℕ) → j ≤ i / 64 * 64 + r → (k : ℕ) → from ≤ k → k < j → member words k ≡ false
-  more_passed j f k s h =
-      elim (dec_lt k i) [
+module _ (words : List ℕ) (from w place : ℕ) (p : Passed words from w place) where
+  -- the numbers of word w below one that has no bit set before it
+  more_passed : (r : ℕ) → r ≤ 64 → ((k : ℕ) → place ≤ k → k < r → word_bit (get_or words w 0) k ≡ false) → (k : ℕ) → from ≤ k → k < 64 * w + r → member words k ≡ false
+  more_passed r l b k s h =
+      elim (dec_lt k (64 * w + place)) [
         | yes e ↦ p.clear k s e
-        | no e ↦ let q = b.inside in member_in words (i / 64) k (omega arith) ∙ b.skipped (k % 64) (omega arith) (omega arith)
+        | no e ↦ member_in words w k (omega arith) ∙ b (k % 64) (omega arith) (omega arith)
       ]
 
-  pub passed_word : 64 ≤ r → Passed words from ((i / 64 + 1) * 64)
-  passed_word h = record { start = omega (arith, p.start); bound = omega arith; clear = more_passed ((i / 64 + 1) * 64) (omega arith) }
+  pub passed_word : NextBit (get_or words w 0) place None → Passed words from (w + 1) 0
+  passed_word b = record { start = omega (arith, p.start, p.inside); inside = omega arith; clear = λ k s h. more_passed 64 (omega arith) (λ k l m. b k l) k s (omega arith) }
 
-  pub found : r < 64 → NextFrom words from (i / 64 * 64 + r)
-  found h = record {
+  pub found : w < length words → (r : ℕ) → NextBit (get_or words w 0) place (Some r) → NextFrom words from (Some (64 * w + r))
+  found l r b = record {
     after = omega (arith, p.start, b.after);
-    inside = omega arith;
-    here = λ g. member_in words (i / 64) (i / 64 * 64 + r) (omega arith) ∙ ap (word_bit (get_or words (i / 64) 0)) (omega arith) ∙ b.here h;
-    skipped = more_passed (i / 64 * 64 + r) (omega arith);
+    inside = omega (arith, b.inside);
+    here = member_in words w (64 * w + r) (omega (arith, b.inside)) ∙ ap (word_bit (get_or words w 0)) (omega (arith, b.inside)) ∙ b.here;
+    skipped = more_passed r (omega (arith, b.inside)) b.skipped;
   }
 
-pub none_left : (words : List ℕ) (from i : ℕ) → from ≤ 512 → Passed words from i → 512 ≤ i → NextFrom words from 512
-none_left words from i l p h = record { after = l; inside = omega arith; here = λ g. absurd (omega arith); skipped = λ k s g. p.clear k s (omega arith) }
+  pub none_left : length words ≤ w → NextFrom words from None
+  none_left l k s = elim (dec_lt k (64 * w + place)) [ yes e ↦ p.clear k s e | no e ↦ member_past words k (omega arith) ]

@@ -1,8 +1,8 @@
-// Sets of numbers below 512, as eight words of 64 bits.
+// Sets of numbers, as words of 64 bits: of N words the numbers below 64 * N.
 #![tactic(auto)]
 
 mod search;
 mod sets;
 
-pub use search::next;
-pub use sets::{common, none, with, without};
+pub use search::{MembersFrom, members_of, next};
+pub use sets::{common, contains, none, union, with, without};

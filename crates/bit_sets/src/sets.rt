@@ -1,52 +1,57 @@
-// The empty set, a set with one number more, what two sets share, what one has and the other has not.
-ghost use Rattle.std.specs.Prelude.{◌≡◌, false, not, ◌&&◌, ◌||◌, ℕ, ◌<◌, eqb};
+// The empty set, whether a number is in a set, a set with one number more, what is in two sets, in either, in one and not in the other.
+ghost use Rattle.std.specs.Prelude.{◌≡◌, false, not, ◌&&◌, ◌||◌, ℕ, ◌*◌, ◌<◌, eqb};
 ghost use Rattle.bit_sets.specs.Inner.{member};
 
-pub fn none() -> [u64; 8]
+pub fn none<const N: usize>() -> [u64; N]
     ensures { (k : ℕ) → member result k ≡ false }
 {
-    [0u64; 8]
+    [0; N]
+}
+
+pub fn contains<const N: usize>(set: [u64; N], j: usize) -> bool
+    requires { j < 64 * N }
+    ensures { result ≡ member set.entry j }
+{
+    (set[j / 64] >> (j % 64)) % 2 == 1
 }
 
 // The set with j.
-pub fn with(set: [u64; 8], j: usize) -> [u64; 8]
-    requires { j < 512 }
-    ensures { (k : ℕ) → member result k ≡ (eqb k j || member set k) }
+pub fn with<const N: usize>(set: [u64; N], j: usize) -> [u64; N]
+    requires { j < 64 * N }
+    ensures { (k : ℕ) → member result k ≡ (eqb k j || member set.entry k) }
 {
-    let word = set[j / 64];
     let mut next = set;
-    next[j / 64] = word | (1u64 << (j % 64));
+    next[j / 64] |= 1 << (j % 64);
     next
 }
 
-pub fn common(a: [u64; 8], b: [u64; 8]) -> [u64; 8]
-    ensures { (k : ℕ) → member result k ≡ (member a k && member b k) }
+pub fn union<const N: usize>(a: [u64; N], b: [u64; N]) -> [u64; N]
+    ensures { (k : ℕ) → member result k ≡ (member a.entry k || member b.entry k) }
 {
-    [
-        a[0] & b[0],
-        a[1] & b[1],
-        a[2] & b[2],
-        a[3] & b[3],
-        a[4] & b[4],
-        a[5] & b[5],
-        a[6] & b[6],
-        a[7] & b[7],
-    ]
+    let mut all = a;
+    for (w, word) in all.iter_mut().enumerate() {
+        *word |= b[w];
+    }
+    all
+}
+
+pub fn common<const N: usize>(a: [u64; N], b: [u64; N]) -> [u64; N]
+    ensures { (k : ℕ) → member result k ≡ (member a.entry k && member b.entry k) }
+{
+    let mut shared = a;
+    for (w, word) in shared.iter_mut().enumerate() {
+        *word &= b[w];
+    }
+    shared
 }
 
 // What a has and b has not.
-pub fn without(a: [u64; 8], b: [u64; 8]) -> [u64; 8]
-    ensures { (k : ℕ) → member result k ≡ (member a k && not (member b k)) }
+pub fn without<const N: usize>(a: [u64; N], b: [u64; N]) -> [u64; N]
+    ensures { (k : ℕ) → member result k ≡ (member a.entry k && not (member b.entry k)) }
 {
-    let shared = common(a, b);
-    [
-        a[0] ^ shared[0],
-        a[1] ^ shared[1],
-        a[2] ^ shared[2],
-        a[3] ^ shared[3],
-        a[4] ^ shared[4],
-        a[5] ^ shared[5],
-        a[6] ^ shared[6],
-        a[7] ^ shared[7],
-    ]
+    let mut left = a;
+    for (w, word) in left.iter_mut().enumerate() {
+        *word &= !b[w];
+    }
+    left
 }

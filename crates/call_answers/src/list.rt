@@ -1,16 +1,8 @@
-// What the list call answers: the four counts, or what is refused.
-use refusals::Refusal;
-
+// The four counts that the list call answers.
 #[derive(Clone, Copy)]
 pub struct Counts {
     pub pairs: usize,
     pub ordered: usize,
     pub commuting: usize,
     pub listed: usize,
-}
-
-#[derive(Clone, Copy)]
-pub enum ListAnswer {
-    Counts(Counts),
-    Refused(Refusal),
 }

@@ -1,16 +1,8 @@
-// What the share call answers: how many of 1,000 unordered pairs commute, or what is refused.
-use refusals::Refusal;
-
-// A division that leaves nothing out: quotient times divisor, and the remainder.
+// What the share call answers: how many of 1,000 unordered pairs commute. A division that leaves nothing out: quotient times divisor,
+// and the remainder.
 #[derive(Clone, Copy)]
 pub struct Share {
     pub quotient: usize,
     pub remainder: usize,
     pub divisor: usize,
-}
-
-#[derive(Clone, Copy)]
-pub enum ShareAnswer {
-    Share(Share),
-    Refused(Refusal),
 }

@@ -1,7 +1,8 @@
 -- The test is exact: where it says no, the witness tells the two orders apart. Assumes nothing.
 use mathlib.Core.Path.{◌≡◌, refl, sym, ◌∙◌, ap}
 use mathlib.Core.Bool.{Bool, true, false, ◌&&◌, ◌||◌, not, cond, true≢false}
-use mathlib.Core.Option.{Option, none, some, some-injective}
+use Rattle.std.specs.Prelude.{Option, None, Some}
+use Rattle.std.proofs.lemmas.Option.{same_Some}
 use mathlib.Core.List.{[], ◌∷◌}
 use Prim.Native.Nat.{ℕ, max}
 use native.Mathlib.Omega.{arith}
@@ -53,10 +54,10 @@ addc_one j a e h g = yes_no (sym g ∙ rw h refl)
 tell : {t u : Table} (k : Key) → t ≡ u → {x y : Option Action} → get k t ≡ x → get k u ≡ y → (x ≡ y → ⊥) → ⊥
 tell k e p q h = h (sym p ∙ ap (get k) e ∙ q)
 
-some_differ : (a b : Action) → same_action a b ≡ false → some a ≡ some b → ⊥
-some_differ a b h e = action_differ a b h (some-injective a b e)
+some_differ : (a b : Action) → same_action a b ≡ false → Some a ≡ Some b → ⊥
+some_differ a b h e = action_differ a b h (same_Some a b e)
 
-get_here : (k : Key) (a : Action) (t : Table) → get k (insert k a t) ≡ some a
+get_here : (k : Key) (a : Action) (t : Table) → get k (insert k a t) ≡ Some a
 get_here k a t = get_insert k k a t ∙ rw (same_self k) refl
 
 get_there : (k j : Key) (a : Action) (t : Table) → same_key k j ≡ false → get k (insert j a t) ≡ get k t
@@ -71,15 +72,15 @@ module _ (j : Key) (a : Action) (k : Key) (b : Action) where
   unfolding after
   add_add_tell h g =
       let e = same_eq j k (not-false (same_key j k) (or_left (not (same_key j k)) (same_action a b) h)) in
-      let f : get k (insert j a (insert k b [])) ≡ some a = rw (← e) (get_here j a (insert j b [])) in
+      let f : get k (insert j a (insert k b [])) ≡ Some a = rw (← e) (get_here j a (insert j b [])) in
       tell k g.tables (get_here k b (insert j a [])) f (λ q. some_differ a b (or_right (not (same_key j k)) (same_action a b) h) (sym q))
 
   -- only the add's key, against both
   two_tell : same_key j k ≡ false → assign_if (inside k.pattern) b (insert j a []) ≡ insert j a (insert k b []) → ⊥
   two_tell h e =
       let n : same_key k j ≡ false = sym (same_sym j k) ∙ h in
-      let l : get k (assign_if (inside k.pattern) b (insert j a [])) ≡ none = get_assign k (inside k.pattern) b (insert j a []) ∙ rw (inside_self k, get_there k j a [] n) refl in
-      let r : get k (insert j a (insert k b [])) ≡ some b = get_there k j a (insert k b []) n ∙ get_here k b [] in
+      let l : get k (assign_if (inside k.pattern) b (insert j a [])) ≡ None = get_assign k (inside k.pattern) b (insert j a []) ∙ rw (inside_self k, get_there k j a [] n) refl in
+      let r : get k (insert j a (insert k b [])) ≡ Some b = get_there k j a (insert k b []) n ∙ get_here k b [] in
       tell k e l r none_some
 
   add_modn_tell : add_modn j a k b ≡ false → Agree (Effect.Add j a) (Effect.Modn k b) [] → ⊥
@@ -87,7 +88,7 @@ module _ (j : Key) (a : Action) (k : Key) (b : Action) where
   add_modn_tell h g =
       let w = not-false (inside k.pattern j) (or_left (not (inside k.pattern j)) (same_key j k && same_action a b) h) in
       let e : assign_if (inside k.pattern) b (insert j a []) ≡ insert j a (insert k b []) = sym (modn_yes k b (insert j a []) (rw w refl)) ∙ g.tables in
-      let l : get j (assign_if (inside k.pattern) b (insert j a [])) ≡ some b = get_assign j (inside k.pattern) b (insert j a []) ∙ rw (w, get_here j a []) refl in
+      let l : get j (assign_if (inside k.pattern) b (insert j a [])) ≡ Some b = get_assign j (inside k.pattern) b (insert j a []) ∙ rw (w, get_here j a []) refl in
       and_cases (same_key j k) (same_action a b) (or_right (not (inside k.pattern j)) (same_key j k && same_action a b) h)
       (λ d. two_tell d e)
       (λ d. tell j e l (get_here j a (insert k b [])) (λ q. some_differ a b d (sym q)))
@@ -105,7 +106,7 @@ module _ (j : Key) (a : Action) (k : Key) (b : Action) where
   -- the later of two modifies finds the entry of the earlier
   found_tell : inside k.pattern j ≡ true → same_key k j ≡ false → after (Effect.Modn k b) (insert j a []) ≡ after (Effect.Modn j a) (insert k b []) → ⊥
   found_tell w n e =
-      let l : get k (after (Effect.Modn k b) (insert j a [])) ≡ none
+      let l : get k (after (Effect.Modn k b) (insert j a [])) ≡ None
       = ap (get k) (modn_yes k b (insert j a []) (rw w refl)) ∙ get_assign k (inside k.pattern) b (insert j a []) ∙ rw (inside_self k, get_there k j a [] n) refl in
       split (any_of (inside j.pattern) (insert k b []))
       (λ u. tell k e l (ap (get k) (modn_yes j a (insert k b []) u) ∙ get_assign k (inside j.pattern) a (insert k b [])
@@ -142,8 +143,8 @@ module _ (j : Key) (a : Action) (k : Key) (b : Action) where
           = ap (after (Effect.Modn k b)) (modn_yes j a (one q) (rw u refl)) ∙ modn_yes k b (assign_if (inside j.pattern) a (one q)) (any_assign (inside k.pattern) (inside j.pattern) a (one q) ∙ rw v refl) in
           let r : after (Effect.Modn j a) (after (Effect.Modn k b) (one q)) ≡ assign_if (inside j.pattern) a (assign_if (inside k.pattern) b (one q))
           = ap (after (Effect.Modn j a)) (modn_yes k b (one q) (rw v refl)) ∙ modn_yes j a (assign_if (inside k.pattern) b (one q)) (any_assign (inside j.pattern) (inside k.pattern) b (one q) ∙ rw u refl) in
-          let x : get q (assign_if (inside k.pattern) b (assign_if (inside j.pattern) a (one q))) ≡ some b = rw (v, same_self q) refl in
-          let y : get q (assign_if (inside j.pattern) a (assign_if (inside k.pattern) b (one q))) ≡ some a = rw (u, same_self q) refl in
+          let x : get q (assign_if (inside k.pattern) b (assign_if (inside j.pattern) a (one q))) ≡ Some b = rw (v, same_self q) refl in
+          let y : get q (assign_if (inside j.pattern) a (assign_if (inside k.pattern) b (one q))) ≡ Some a = rw (u, same_self q) refl in
           tell q (sym l ∙ f.tables ∙ r) x y (λ e. some_differ a b c (sym e))
 
 module _ (j : Key) (a : Action) where

@@ -2,5 +2,4 @@ pub mod Sound
 pub mod Exact
 pub mod Theorems
 pub mod Marked
-pub mod Forms
 pub mod Footprints

@@ -5,7 +5,6 @@ use mathlib.Core.Bool.{true, false, and-false, true≢false}
 use lib.Dec.{lit<, lit≤}
 use Rattle.flow.specs.Matches.{prefix_fits, fits, overlaps, within, MatchInRange}
 use Rattle.flow.specs.Entries.{rank, match_order, key_order, same_key, same_action}
-use Rattle.flow.specs.Orders.{order_of, then_by}
 use Rattle.flow.proofs.PrefixField.{prefix_clear_means, prefix_fits_leading}
 use Rattle.flow.proofs.Leading.{overlaps_by_bits_lem, within_by_bits_lem, other_destination}
 use Rattle.commuting.specs.Types.{Packet, Effect}
@@ -78,7 +77,7 @@ no : (v w : Effect) → commutes v w ≡ false → Commute v w → ⊥
 no v w e f = true≢false (sym ((commutes_iff v w).1 f) ∙ e)
 
 pub marked : MarkedCases
-unfolding commutes same_key key_order match_order rank order_of then_by same_action
+unfolding commutes same_key key_order match_order rank same_action
 marked = record {
   add_A_5_p1_twice = yes _ _ refl;
   add_A_5_with_addc_B_6 = λ a b. yes _ _ refl;

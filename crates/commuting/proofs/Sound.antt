@@ -1,7 +1,7 @@
 -- The test is right: where it says yes the two orders agree on every table. Assumes nothing.
 use mathlib.Core.Path.{◌≡◌, refl, sym, ◌∙◌, ap}
 use mathlib.Core.Bool.{Bool, true, false, ◌&&◌, ◌||◌, not, cond, true≢false}
-use mathlib.Core.Option.{Option, none, some}
+use Rattle.std.specs.Prelude.{Option, None, Some}
 use lib.Dec.{eqb}
 use borrow.Author.Tests.{eqb-true, eq-eqb, not-true, not-false}
 use Rattle.flow.specs.Matches.{fits, within, overlaps}
@@ -20,12 +20,12 @@ use Rattle.commuting.specs.Commuting.{Agree, add_add, add_dels, add_deln, add_mo
 insert_insert : (j k : Key) (a b : Action) → same_key j k ≡ false → (t : Table) → Sorted t → insert k b (insert j a t) ≡ insert j a (insert k b t)
 insert_insert j k a b h t s = table_ext (insert k b (insert j a t)) (insert j a (insert k b t))
     (sorted_insert k b (insert j a t) (sorted_insert j a t s)) (sorted_insert j a (insert k b t) (sorted_insert k b t s))
-    (λ i. simp get_insert (cond_swap (same_key i k) (same_key i j) (some b) (some a) (get i t) (λ u v. differ j k h (sym (same_eq i j v) ∙ same_eq i k u))))
+    (λ i. simp get_insert (cond_swap (same_key i k) (same_key i j) (Some b) (Some a) (get i t) (λ u v. differ j k h (sym (same_eq i j v) ∙ same_eq i k u))))
 
 insert_remove : (k : Key) (a : Action) (p : Key → Bool) → p k ≡ false → (t : Table) → Sorted t → remove_if p (insert k a t) ≡ insert k a (remove_if p t)
 insert_remove k a p h t s = table_ext (remove_if p (insert k a t)) (insert k a (remove_if p t))
     (sorted_remove p (insert k a t) (sorted_insert k a t s)) (sorted_insert k a (remove_if p t) (sorted_remove p t s))
-    (λ i. simp (get_insert, get_remove) (cond_swap (p i) (same_key i k) none (some a) (get i t) (λ u v. true≢false (sym u ∙ ap p (same_eq i k v) ∙ h))))
+    (λ i. simp (get_insert, get_remove) (cond_swap (p i) (same_key i k) None (Some a) (get i t) (λ u v. true≢false (sym u ∙ ap p (same_eq i k v) ∙ h))))
 
 insert_assign : (k : Key) (a : Action) (p : Key → Bool) (b : Action) → (p k ≡ true → b ≡ a) → (t : Table) → Sorted t → assign_if p b (insert k a t) ≡ insert k a (assign_if p b t)
 insert_assign k a p b h t s = table_ext (assign_if p b (insert k a t)) (insert k a (assign_if p b t))
@@ -33,8 +33,8 @@ insert_assign k a p b h t s = table_ext (assign_if p b (insert k a t)) (insert k
     (λ i. simp (get_insert, get_assign) (at (p i) (same_key i k) (get i t) (λ u v. h (ap p (sym (same_eq i k v)) ∙ u))))
   where
     at : (x y : Bool) (g : Option Action) → (x ≡ true → y ≡ true → b ≡ a)
-        → cond x (overwrite b (cond y (some a) g)) (cond y (some a) g) ≡ cond y (some a) (cond x (overwrite b g) g)
-    at true true g f = ap {B = Option Action} some (f refl refl)
+        → cond x (overwrite b (cond y (Some a) g)) (cond y (Some a) g) ≡ cond y (Some a) (cond x (overwrite b g) g)
+    at true true g f = ap {B = Option Action} Some (f refl refl)
     at true false g f = refl
     at false true g f = refl
     at false false g f = refl
@@ -44,7 +44,7 @@ remove_remove p q t s = table_ext (remove_if q (remove_if p t)) (remove_if p (re
     (sorted_remove q (remove_if p t) (sorted_remove p t s)) (sorted_remove p (remove_if q t) (sorted_remove q t s))
     (λ i. simp get_remove (at (q i) (p i) (get i t)))
   where
-    at : (x y : Bool) (g : Option Action) → cond x none (cond y none g) ≡ cond y none (cond x none g)
+    at : (x y : Bool) (g : Option Action) → cond x None (cond y None g) ≡ cond y None (cond x None g)
     at true true g = refl
     at true false g = refl
     at false true g = refl
@@ -55,7 +55,7 @@ assign_remove p q a t s = table_ext (remove_if q (assign_if p a t)) (assign_if p
     (sorted_remove q (assign_if p a t) (sorted_assign p a t s)) (sorted_assign p a (remove_if q t) (sorted_remove q t s))
     (λ i. simp (get_remove, get_assign) (at (q i) (p i) (get i t)))
   where
-    at : (x y : Bool) (g : Option Action) → cond x none (cond y (overwrite a g) g) ≡ cond y (overwrite a (cond x none g)) (cond x none g)
+    at : (x y : Bool) (g : Option Action) → cond x None (cond y (overwrite a g) g) ≡ cond y (overwrite a (cond x None g)) (cond x None g)
     at true true g = refl
     at true false g = refl
     at false true g = refl
@@ -69,8 +69,8 @@ assign_assign p q a b h t s = table_ext (assign_if q b (assign_if p a t)) (assig
   where
     at : (x y : Bool) (g : Option Action) → (x ≡ true → y ≡ true → a ≡ b)
         → cond x (overwrite b (cond y (overwrite a g) g)) (cond y (overwrite a g) g) ≡ cond y (overwrite a (cond x (overwrite b g) g)) (cond x (overwrite b g) g)
-    at true true none f = refl
-    at true true (some c) f = ap {B = Option Action} some (sym (f refl refl))
+    at true true None f = refl
+    at true true (Some c) f = ap {B = Option Action} Some (sym (f refl refl))
     at true false g f = refl
     at false true g f = refl
     at false false g f = refl
@@ -84,7 +84,7 @@ assign_idle p a t s h = table_ext (assign_if p a t) t (sorted_assign p a t s) s 
 
 insert_twice : (k : Key) (a : Action) (t : Table) → Sorted t → insert k a (insert k a t) ≡ insert k a t
 insert_twice k a t s = table_ext (insert k a (insert k a t)) (insert k a t) (sorted_insert k a (insert k a t) (sorted_insert k a t s)) (sorted_insert k a t s)
-    (λ i. simp get_insert (cond_same (same_key i k) (some a) (some a) (get i t)))
+    (λ i. simp get_insert (cond_same (same_key i k) (Some a) (Some a) (get i t)))
 
 -- laws of keys
 pub inside_self : (k : Key) → inside k.pattern k ≡ true
@@ -315,7 +315,7 @@ module _ (t : Table) (s : Sorted t) where
   unfolding after answer
   pkt_agree p w h = record { tables = refl; first = ap best fit; second = refl }
     where
-      at : (i : Key) (b : Bool) → admits p i ≡ b → cond (not b) none (get i (after w t)) ≡ cond (not b) none (get i t)
+      at : (i : Key) (b : Bool) → admits p i ≡ b → cond (not b) None (get i (after w t)) ≡ cond (not b) None (get i t)
       at i true e = h i e
       at i false e = refl
 
@@ -325,7 +325,7 @@ module _ (t : Table) (s : Sorted t) where
 
   module _ (p : Packet) where
     insert_unseen : (k : Key) (a : Action) → admits p k ≡ false → (i : Key) → admits p i ≡ true → get i (insert k a t) ≡ get i t
-    insert_unseen k a h i e = get_insert i k a t ∙ ap (λ b. cond b (some a) (get i t)) (differ_of i k (λ q. true≢false (sym e ∙ ap (admits p) q ∙ h)))
+    insert_unseen k a h i e = get_insert i k a t ∙ ap (λ b. cond b (Some a) (get i t)) (differ_of i k (λ q. true≢false (sym e ∙ ap (admits p) q ∙ h)))
 
     -- a key that admits the packet doesn't lie within a match that doesn't
     unseen : (m : Match) → fits m p ≡ false → (i : Key) → admits p i ≡ true → inside m i ≡ false
@@ -345,11 +345,11 @@ module _ (t : Table) (s : Sorted t) where
 
     pkt_dels : (k : Key) → admits p k ≡ false → Agree (Effect.Pkt p) (Effect.Dels k) t
     unfolding after
-    pkt_dels k h = pkt_agree p (Effect.Dels k) (λ i e. get_remove i (same_key k) t ∙ ap (λ b. cond b none (get i t)) (differ_of k i (λ q. true≢false (sym e ∙ ap (admits p) (sym q) ∙ h))))
+    pkt_dels k h = pkt_agree p (Effect.Dels k) (λ i e. get_remove i (same_key k) t ∙ ap (λ b. cond b None (get i t)) (differ_of k i (λ q. true≢false (sym e ∙ ap (admits p) (sym q) ∙ h))))
 
     pkt_deln : (m : Match) → fits m p ≡ false → Agree (Effect.Pkt p) (Effect.Deln m) t
     unfolding after
-    pkt_deln m h = pkt_agree p (Effect.Deln m) (λ i e. get_remove i (inside m) t ∙ ap (λ b. cond b none (get i t)) (unseen m h i e))
+    pkt_deln m h = pkt_agree p (Effect.Deln m) (λ i e. get_remove i (inside m) t ∙ ap (λ b. cond b None (get i t)) (unseen m h i e))
 
   pub idle_agree : (w : Effect) → Agree Effect.Idle w t
   unfolding after answer

@@ -1,27 +1,28 @@
 -- Inner: what commuting asks of an effect, and the document's table by that. For effects whose fields have the bits of their places it
 -- is the table itself (proofs/Footprints.antt).
-use Rattle.std.specs.Prelude.{Bool, true, ◌&&◌, ◌||◌, not, ℕ, eqb}
-use Rattle.flow.specs.Entries.{action_code}
+use Rattle.std.specs.Prelude.{Bool, true, ◌&&◌, ◌||◌, not, eqb, Option, None, Some}
+use Rattle.std.specs.Option.{option_eq}
+use Rattle.flow.specs.Entries.{same_action}
 use Rattle.flow_bits.specs.Inner.{bits_of, bits_overlap, bits_within, bits_same, exactly, Narrow}
-use Rattle.commuting.specs.Types.{Key, Effect, Word, EffectKind, Footprint}
+use Rattle.commuting.specs.Types.{Action, Key, Effect, Word, EffectKind, Footprint}
 use Rattle.commuting.specs.Commuting.{at}
 
-abbrev pub printed : EffectKind → Key → ℕ → Footprint
+abbrev pub printed : EffectKind → Key → Option Action → Footprint
 printed kind k a = record { kind = kind; priority = k.priority; bits = bits_of k.pattern; action = a }
 
 abbrev no_word : Word
 no_word = record { value = 0; mask = 0 }
 
 abbrev pub no_footprint : Footprint
-no_footprint = record { kind = EffectKind.Idle; priority = 0; bits = record { first = no_word; second = no_word; third = no_word }; action = 0 }
+no_footprint = record { kind = EffectKind.Idle; priority = 0; bits = record { first = no_word; second = no_word; third = no_word }; action = None }
 
 abbrev pub footprint_of : Effect → Footprint
-footprint_of (Effect.Pkt p) = printed EffectKind.Pkt (at 0 (exactly p)) 0
-footprint_of (Effect.Add k a) = printed EffectKind.Add k (action_code a)
-footprint_of (Effect.Addc k a) = printed EffectKind.Addc k (action_code a)
-footprint_of (Effect.Modn k a) = printed EffectKind.Modn k (action_code a)
-footprint_of (Effect.Dels k) = printed EffectKind.Dels k 0
-footprint_of (Effect.Deln m) = printed EffectKind.Deln (at 0 m) 0
+footprint_of (Effect.Pkt p) = printed EffectKind.Pkt (at 0 (exactly p)) None
+footprint_of (Effect.Add k a) = printed EffectKind.Add k (Some a)
+footprint_of (Effect.Addc k a) = printed EffectKind.Addc k (Some a)
+footprint_of (Effect.Modn k a) = printed EffectKind.Modn k (Some a)
+footprint_of (Effect.Dels k) = printed EffectKind.Dels k None
+footprint_of (Effect.Deln m) = printed EffectKind.Deln (at 0 m) None
 footprint_of Effect.Idle = no_footprint
 
 -- each field has the bits of its place
@@ -38,6 +39,9 @@ NarrowEffect Effect.Idle = Unit {0}
 unfoldable pub same_key_by : Footprint → Footprint → Bool
 same_key_by j k = eqb j.priority k.priority && bits_same j.bits k.bits
 
+unfoldable pub same_action_by : Footprint → Footprint → Bool
+same_action_by j k = option_eq same_action j.action k.action
+
 abbrev pub apart_by : Footprint → Footprint → Bool
 apart_by j k = not (bits_overlap j.bits k.bits)
 
@@ -48,10 +52,10 @@ abbrev pub keys_differ_by : Footprint → Footprint → Bool
 keys_differ_by j k = not (same_key_by j k)
 
 abbrev pub add_add_by : Footprint → Footprint → Bool
-add_add_by j k = not (same_key_by j k) || eqb j.action k.action
+add_add_by j k = not (same_key_by j k) || same_action_by j k
 
 abbrev pub add_modn_by : Footprint → Footprint → Bool
-add_modn_by j k = not (bits_within j.bits k.bits) || (same_key_by j k && eqb j.action k.action)
+add_modn_by j k = not (bits_within j.bits k.bits) || (same_key_by j k && same_action_by j k)
 
 abbrev pub addc_other_by : Footprint → Footprint → Bool
 addc_other_by j k = not (eqb j.priority k.priority) || not (bits_overlap j.bits k.bits)
@@ -62,8 +66,8 @@ addc_modn_by j k = not (bits_within j.bits k.bits) && addc_other_by j k
 abbrev pub modn_modn_by : Footprint → Footprint → Bool
 modn_modn_by j k =
     not (bits_overlap j.bits k.bits)
-    || ((eqb j.action k.action && (not (bits_within j.bits k.bits) && not (bits_within k.bits j.bits)))
-    || (same_key_by j k && eqb j.action k.action))
+    || ((same_action_by j k && (not (bits_within j.bits k.bits) && not (bits_within k.bits j.bits)))
+    || (same_key_by j k && same_action_by j k))
 
 -- ---- which row is for which pair: the form of the first, and that of the second
 abbrev pub packet_by : EffectKind → Footprint → Footprint → Bool

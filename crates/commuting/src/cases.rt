@@ -28,41 +28,25 @@ pub fn keys_differ(j: Footprint, k: Footprint) -> bool
 pub fn add_add(j: Footprint, k: Footprint) -> bool
     ensures { result ≡ add_add_by j k }
 {
-    if j.action == k.action {
-        return true;
-    }
-    !j.same_key(k)
+    j.same_action(k) || !j.same_key(k)
 }
 
 pub fn add_modify(j: Footprint, k: Footprint) -> bool
     ensures { result ≡ add_modn_by j k }
 {
-    if !j.bits.within(k.bits) {
-        return true;
-    }
-    if j.action != k.action {
-        return false;
-    }
-    j.same_key(k)
+    !j.bits.within(k.bits) || j.same_action(k) && j.same_key(k)
 }
 
 pub fn checked_other(j: Footprint, k: Footprint) -> bool
     ensures { result ≡ addc_other_by j k }
 {
-    if j.priority != k.priority {
-        return true;
-    }
-    let clash = j.bits.overlaps(k.bits);
-    !clash
+    j.priority != k.priority || !j.bits.overlaps(k.bits)
 }
 
 pub fn checked_modify(j: Footprint, k: Footprint) -> bool
     ensures { result ≡ addc_modn_by j k }
 {
-    if j.bits.within(k.bits) {
-        return false;
-    }
-    checked_other(j, k)
+    !j.bits.within(k.bits) && checked_other(j, k)
 }
 
 pub fn modify_modify(j: Footprint, k: Footprint) -> bool
@@ -73,9 +57,6 @@ pub fn modify_modify(j: Footprint, k: Footprint) -> bool
     if !m.overlaps(n) {
         return true;
     }
-    if j.action != k.action {
-        return false;
-    }
-    let apart = !m.within(n) & !n.within(m);
-    apart | j.same_key(k)
+    let apart = !m.within(n) && !n.within(m);
+    j.same_action(k) && (apart || j.same_key(k))
 }

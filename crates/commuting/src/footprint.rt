@@ -1,16 +1,16 @@
 // What commuting asks of an effect, worked out once an event and not once a pair: its match as words of bits, a packet as the match
 // that it alone fits.
-ghost use Rattle.std.specs.Prelude.{◌≡◌};
+ghost use Rattle.std.specs.Prelude.{◌≡◌, None};
 ghost use Rattle.flow_bits.specs.Inner.{Narrow};
-ghost use Rattle.commuting.specs.InnerFootprints.{printed, no_footprint, footprint_of, NarrowEffect, same_key_by};
+ghost use Rattle.commuting.specs.InnerFootprints.{printed, no_footprint, footprint_of, NarrowEffect, same_key_by, same_action_by};
 ghost use Rattle.commuting.specs.Commuting.{at};
 
-use flow::{Key, Match};
+use flow::{Action, Key, Match};
 use flow_bits::{Bits, Word, exactly};
 use flow_table::Effect;
 
 // The forms of an effect.
-#[derive(Clone, Copy)]
+#[derive(Clone, Copy, PartialEq, Eq)]
 pub enum EffectKind {
     Idle,
     Pkt,
@@ -21,13 +21,13 @@ pub enum EffectKind {
     Deln,
 }
 
-// Priority 0 and action 0 where the effect has none.
+// Priority 0 where the effect has none.
 #[derive(Clone, Copy)]
 pub struct Footprint {
     pub kind: EffectKind,
     pub priority: u16,
     pub bits: Bits,
-    pub action: u32,
+    pub action: Option<Action>,
 }
 
 impl Footprint {
@@ -36,41 +36,37 @@ impl Footprint {
         ensures { result ≡ no_footprint }
     {
         let none = Word { value: 0, mask: 0 };
-        let bits = Bits {
-            first: none,
-            second: none,
-            third: none,
-        };
         Footprint {
             kind: EffectKind::Idle,
             priority: 0,
-            bits,
-            action: 0,
+            bits: Bits {
+                first: none,
+                second: none,
+                third: none,
+            },
+            action: None,
         }
     }
 
-    fn of_key(kind: EffectKind, key: Key, action: u32) -> Footprint
+    fn of_key(kind: EffectKind, key: Key, action: Option<Action>) -> Footprint
         ensures { (result ≡ printed kind key action) × Narrow key.pattern }
     {
-        let bits = Bits::of(key.pattern);
         Footprint {
             kind,
             priority: key.priority,
-            bits,
+            bits: Bits::of(key.pattern),
             action,
         }
     }
 
-    fn of_match(kind: EffectKind, m: Match) -> Footprint
-        ensures { (result ≡ printed kind (at 0 m) 0) × Narrow m }
+    fn of_match(kind: EffectKind, pattern: Match) -> Footprint
+        ensures { (result ≡ printed kind (at 0 pattern) None) × Narrow pattern }
     {
-        let bits = Bits::of(m);
-        Footprint {
-            kind,
+        let key = Key {
             priority: 0,
-            bits,
-            action: 0,
-        }
+            pattern,
+        };
+        Footprint::of_key(kind, key, None)
     }
 
     pub fn of(effect: Effect) -> Footprint
@@ -78,19 +74,27 @@ impl Footprint {
     {
         match effect {
             Effect::Pkt(p) => Footprint::of_match(EffectKind::Pkt, exactly(p)),
-            Effect::Add(k, a) => Footprint::of_key(EffectKind::Add, k, a.code()),
-            Effect::Addc(k, a) => Footprint::of_key(EffectKind::Addc, k, a.code()),
-            Effect::Modn(k, a) => Footprint::of_key(EffectKind::Modn, k, a.code()),
-            Effect::Dels(k) => Footprint::of_key(EffectKind::Dels, k, 0),
+            Effect::Add(k, a) => Footprint::of_key(EffectKind::Add, k, Some(a)),
+            Effect::Addc(k, a) => Footprint::of_key(EffectKind::Addc, k, Some(a)),
+            Effect::Modn(k, a) => Footprint::of_key(EffectKind::Modn, k, Some(a)),
+            Effect::Dels(k) => Footprint::of_key(EffectKind::Dels, k, None),
             Effect::Deln(m) => Footprint::of_match(EffectKind::Deln, m),
             Effect::Idle => Footprint::none(),
         }
     }
 
     // The same priority and match.
+    #[tactic(auto, using(flow_bits::proofs::Derived::same_words), unfolding(crate::specs::InnerFootprints::same_key_by))]
     pub fn same_key(self, other: Footprint) -> bool
         ensures { result ≡ same_key_by self other }
     {
-        (self.priority == other.priority) & self.bits.same(other.bits)
+        self.priority == other.priority && self.bits == other.bits
+    }
+
+    #[tactic(auto, using(crate::proofs::Footprints::same_choice), unfolding(crate::specs::InnerFootprints::same_action_by))]
+    pub fn same_action(self, other: Footprint) -> bool
+        ensures { result ≡ same_action_by self other }
+    {
+        self.action == other.action
     }
 }

@@ -7,7 +7,7 @@ ghost use Rattle.exports_values.specs.Values.{list_as, normal_as, page_as, repla
 ghost use Rattle.list_call.specs.Races.{list_races, list_answer, list_out};
 ghost use Rattle.tables_normal.specs.Normal.{normalised, normal_answer};
 ghost use Rattle.page_call.specs.Paged.{paged, page_answer};
-ghost use Rattle.share_call.specs.Shared.{shared, share_answer};
+ghost use Rattle.share_call.specs.Shared.{shared};
 ghost use Rattle.replay_texts.specs.Writing.{replay_answer, tables_to_write, answers_to_write};
 ghost use Rattle.replay_call.specs.Replay.{replayed};
 ghost use Rattle.trials_call.specs.Tried.{tried, trials_answer};
@@ -51,7 +51,7 @@ pub extern "C" fn gellunka_page(trace: &[u8], delay: u32, out: &mut [u8]) -> Pag
 // How many of 1,000 unordered pairs of a trace commute, with what is left over.
 #[unsafe(no_mangle)]
 pub extern "C" fn gellunka_share(trace: &[u8], delay: u32) -> Shared
-    ensures { result ≡ share_as trace.now (share_answer (shared delay trace.now)) }
+    ensures { result ≡ share_as trace.now (shared delay trace.now) }
 {
     let answer = share_call::share(trace, delay);
     share_as(trace, answer)

@@ -2,13 +2,7 @@
 pub use Rattle.refusals.specs.declared.refusal.Refusal.{Refusal}
 pub use Rattle.refusals.specs.declared.refused.Refused.{Refused}
 pub use Rattle.call_answers.specs.declared.list.Counts.{Counts}
-pub use Rattle.call_answers.specs.declared.list.ListAnswer.{ListAnswer}
-pub use Rattle.call_answers.specs.declared.normal.NormalAnswer.{NormalAnswer}
-pub use Rattle.call_answers.specs.declared.page.PageAnswer.{PageAnswer}
-pub use Rattle.call_answers.specs.declared.replay.ReplayAnswer.{ReplayAnswer}
 pub use Rattle.call_answers.specs.declared.share.Share.{Share}
-pub use Rattle.call_answers.specs.declared.share.ShareAnswer.{ShareAnswer}
-pub use Rattle.call_answers.specs.declared.trials.TrialsAnswer.{TrialsAnswer}
 pub use Rattle.exports_values.specs.declared.list.Listed.{Listed}
 pub use Rattle.exports_values.specs.declared.normal.Normalised.{Normalised}
 pub use Rattle.exports_values.specs.declared.page.Paged.{Paged}

@@ -2,8 +2,8 @@
 ghost use Rattle.std.specs.Prelude.{◌≡◌};
 ghost use Rattle.exports_values.specs.Values.{list_as};
 
-use call_answers::ListAnswer;
-use refusals::Refused;
+use call_answers::Counts;
+use refusals::{Refusal, Refused};
 
 // The four counts, or what is refused.
 #[repr(C)]
@@ -16,29 +16,24 @@ pub struct Listed {
     pub listed: usize,
 }
 
-pub fn list_as(trace: &[u8], answer: ListAnswer) -> Listed
+#[tactic(auto, unfolding(crate::specs::Values::list_as))]
+pub fn list_as(trace: &[u8], answer: Result<Counts, Refusal>) -> Listed
     ensures { result ≡ list_as trace.now answer }
 {
     match answer {
-        ListAnswer::Counts(c) => {
-            let refused = Refused::nothing();
-            Listed {
-                refused,
-                pairs: c.pairs,
-                ordered: c.ordered,
-                commuting: c.commuting,
-                listed: c.listed,
-            }
-        }
-        ListAnswer::Refused(r) => {
-            let refused = Refused::from(trace, b"", r);
-            Listed {
-                refused,
-                pairs: 0,
-                ordered: 0,
-                commuting: 0,
-                listed: 0,
-            }
-        }
+        Ok(c) => Listed {
+            refused: Refused::nothing(),
+            pairs: c.pairs,
+            ordered: c.ordered,
+            commuting: c.commuting,
+            listed: c.listed,
+        },
+        Err(r) => Listed {
+            refused: Refused::from(trace, b"", r),
+            pairs: 0,
+            ordered: 0,
+            commuting: 0,
+            listed: 0,
+        },
     }
 }

@@ -2,8 +2,7 @@
 ghost use Rattle.std.specs.Prelude.{◌≡◌};
 ghost use Rattle.exports_values.specs.Values.{normal_as};
 
-use call_answers::NormalAnswer;
-use refusals::Refused;
+use refusals::{Refusal, Refused};
 
 // The length of the normal text, or what is refused.
 #[repr(C)]
@@ -13,17 +12,18 @@ pub struct Normalised {
     pub length: usize,
 }
 
-pub fn normal_as(tables: &[u8], answer: NormalAnswer) -> Normalised
+#[tactic(auto, unfolding(crate::specs::Values::normal_as))]
+pub fn normal_as(tables: &[u8], answer: Result<usize, Refusal>) -> Normalised
     ensures { result ≡ normal_as tables.now answer }
 {
     match answer {
-        NormalAnswer::Length(length) => {
-            let refused = Refused::nothing();
-            Normalised { refused, length }
-        }
-        NormalAnswer::Refused(r) => {
-            let refused = Refused::from(b"", tables, r);
-            Normalised { refused, length: 0 }
-        }
+        Ok(length) => Normalised {
+            refused: Refused::nothing(),
+            length,
+        },
+        Err(r) => Normalised {
+            refused: Refused::from(b"", tables, r),
+            length: 0,
+        },
     }
 }

@@ -2,8 +2,7 @@
 ghost use Rattle.std.specs.Prelude.{◌≡◌};
 ghost use Rattle.exports_values.specs.Values.{page_as};
 
-use call_answers::PageAnswer;
-use refusals::Refused;
+use refusals::{Refusal, Refused};
 
 // The length of the page, or what is refused.
 #[repr(C)]
@@ -13,17 +12,18 @@ pub struct Paged {
     pub length: usize,
 }
 
-pub fn page_as(trace: &[u8], answer: PageAnswer) -> Paged
+#[tactic(auto, unfolding(crate::specs::Values::page_as))]
+pub fn page_as(trace: &[u8], answer: Result<usize, Refusal>) -> Paged
     ensures { result ≡ page_as trace.now answer }
 {
     match answer {
-        PageAnswer::Length(length) => {
-            let refused = Refused::nothing();
-            Paged { refused, length }
-        }
-        PageAnswer::Refused(r) => {
-            let refused = Refused::from(trace, b"", r);
-            Paged { refused, length: 0 }
-        }
+        Ok(length) => Paged {
+            refused: Refused::nothing(),
+            length,
+        },
+        Err(r) => Paged {
+            refused: Refused::from(trace, b"", r),
+            length: 0,
+        },
     }
 }

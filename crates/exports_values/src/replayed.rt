@@ -2,8 +2,7 @@
 ghost use Rattle.std.specs.Prelude.{◌≡◌};
 ghost use Rattle.exports_values.specs.Values.{replay_as};
 
-use call_answers::ReplayAnswer;
-use refusals::Refused;
+use refusals::{Refusal, Refused};
 
 // The lengths of the end tables and of the answers, or what is refused.
 #[repr(C)]
@@ -14,25 +13,24 @@ pub struct Replayed {
     pub answers: usize,
 }
 
-pub fn replay_as<'a>(trace: &'a [u8], tables: &'a [u8], answer: ReplayAnswer) -> Replayed
+#[tactic(auto, unfolding(crate::specs::Values::replay_as))]
+pub fn replay_as<'a>(
+    trace: &'a [u8],
+    tables: &'a [u8],
+    answer: Result<(usize, usize), Refusal>,
+) -> Replayed
     ensures { result ≡ replay_as trace.now tables.now answer }
 {
     match answer {
-        ReplayAnswer::Lengths(tables, answers) => {
-            let refused = Refused::nothing();
-            Replayed {
-                refused,
-                tables,
-                answers,
-            }
-        }
-        ReplayAnswer::Refused(r) => {
-            let refused = Refused::from(trace, tables, r);
-            Replayed {
-                refused,
-                tables: 0,
-                answers: 0,
-            }
-        }
+        Ok((tables, answers)) => Replayed {
+            refused: Refused::nothing(),
+            tables,
+            answers,
+        },
+        Err(r) => Replayed {
+            refused: Refused::from(trace, tables, r),
+            tables: 0,
+            answers: 0,
+        },
     }
 }

@@ -2,8 +2,8 @@
 ghost use Rattle.std.specs.Prelude.{◌≡◌};
 ghost use Rattle.exports_values.specs.Values.{share_as};
 
-use call_answers::ShareAnswer;
-use refusals::Refused;
+use call_answers::Share;
+use refusals::{Refusal, Refused};
 
 // Quotient, remainder and divisor, or what is refused.
 #[repr(C)]
@@ -15,27 +15,22 @@ pub struct Shared {
     pub divisor: usize,
 }
 
-pub fn share_as(trace: &[u8], answer: ShareAnswer) -> Shared
+#[tactic(auto, unfolding(crate::specs::Values::share_as))]
+pub fn share_as(trace: &[u8], answer: Result<Share, Refusal>) -> Shared
     ensures { result ≡ share_as trace.now answer }
 {
     match answer {
-        ShareAnswer::Share(x) => {
-            let refused = Refused::nothing();
-            Shared {
-                refused,
-                quotient: x.quotient,
-                remainder: x.remainder,
-                divisor: x.divisor,
-            }
-        }
-        ShareAnswer::Refused(r) => {
-            let refused = Refused::from(trace, b"", r);
-            Shared {
-                refused,
-                quotient: 0,
-                remainder: 0,
-                divisor: 0,
-            }
-        }
+        Ok(x) => Shared {
+            refused: Refused::nothing(),
+            quotient: x.quotient,
+            remainder: x.remainder,
+            divisor: x.divisor,
+        },
+        Err(r) => Shared {
+            refused: Refused::from(trace, b"", r),
+            quotient: 0,
+            remainder: 0,
+            divisor: 0,
+        },
     }
 }

@@ -2,8 +2,7 @@
 ghost use Rattle.std.specs.Prelude.{◌≡◌};
 ghost use Rattle.exports_values.specs.Values.{trials_as};
 
-use call_answers::TrialsAnswer;
-use refusals::Refused;
+use refusals::{Refusal, Refused};
 
 // How many orders were tried, or what is refused.
 #[repr(C)]
@@ -13,17 +12,18 @@ pub struct Tried {
     pub orders: usize,
 }
 
-pub fn trials_as<'a>(trace: &'a [u8], tables: &'a [u8], answer: TrialsAnswer) -> Tried
+#[tactic(auto, unfolding(crate::specs::Values::trials_as))]
+pub fn trials_as<'a>(trace: &'a [u8], tables: &'a [u8], answer: Result<usize, Refusal>) -> Tried
     ensures { result ≡ trials_as trace.now tables.now answer }
 {
     match answer {
-        TrialsAnswer::Orders(orders) => {
-            let refused = Refused::nothing();
-            Tried { refused, orders }
-        }
-        TrialsAnswer::Refused(r) => {
-            let refused = Refused::from(trace, tables, r);
-            Tried { refused, orders: 0 }
-        }
+        Ok(orders) => Tried {
+            refused: Refused::nothing(),
+            orders,
+        },
+        Err(r) => Tried {
+            refused: Refused::from(trace, tables, r),
+            orders: 0,
+        },
     }
 }

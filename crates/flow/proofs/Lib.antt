@@ -10,3 +10,4 @@ pub mod Orders
 pub mod Entries
 pub mod TableOrder
 pub mod SameKey
+pub mod Derived

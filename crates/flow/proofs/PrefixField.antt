@@ -13,7 +13,7 @@ use borrow.Author.Tests.{eq-eqb, ne_eqb, eqb-true, leb-true, leb-false, ltb-true
 use Rattle.flow.specs.Types.{Prefix}
 use Rattle.flow.specs.Matches.{masked_fits, mask_of, masked_of, prefix_fits, prefix_overlaps, prefix_within, prefix_clear, PrefixInRange}
 use Rattle.flow.specs.Inner.{masked_meet, same_leading, prefix_meet}
-use Rattle.basics.proofs.Booleans.{split, both_ways, and_intro, and_left, and_right, and_cases, and_absorb, and_absorb_right}
+use Rattle.basics.proofs.Booleans.{split, both_ways, and_intro, and_absorb, and_absorb_right}
 use Rattle.flow.proofs.Field.{IsField, along}
 use Rattle.flow.proofs.MaskedField.{MaskedInRange, masked_field}
 
@@ -78,19 +78,12 @@ both_masks k l = split (leb l k)
 pub overlaps_shorter : (p q : Prefix) → prefix_overlaps p q ≡ same_leading p.value q.value (min p.length q.length)
 overlaps_shorter p q = rw (both_masks p.length q.length)
 
--- the test that one is the shorter, where a length over 32 counts as 32
-pub within_shorter : (p q : Prefix) → (ltb p.length q.length && ltb p.length 32) ≡ true → prefix_within p q ≡ false
-within_shorter p q e =
-    let h = ltb-true p.length q.length (and_left (ltb p.length q.length) (ltb p.length 32) e) in
-    let i = ltb-true p.length 32 (and_right (ltb p.length q.length) (ltb p.length 32) e) in
-    rw (not_nested p.length q.length h i)
+-- one is the shorter, where a length over 32 counts as 32
+pub within_shorter : (p q : Prefix) → p.length < min q.length 32 → prefix_within p q ≡ false
+within_shorter p q h = rw (not_nested p.length q.length (omega arith) (omega arith))
 
-pub within_longer : (p q : Prefix) → (ltb p.length q.length && ltb p.length 32) ≡ false → prefix_within p q ≡ same_leading p.value q.value q.length
-within_longer p q e =
-    let h : 32 - p.length ≤ 32 - q.length = and_cases (ltb p.length q.length) (ltb p.length 32) e
-    (λ u. let l = ltb-false p.length q.length u in omega arith)
-    (λ u. let l = ltb-false p.length 32 u in omega arith) in
-    rw (eq-eqb (bit_and (mask_of p.length) (mask_of q.length)) (mask_of q.length) (nested p.length q.length h))
+pub within_longer : (p q : Prefix) → min q.length 32 ≤ p.length → prefix_within p q ≡ same_leading p.value q.value q.length
+within_longer p q h = rw (eq-eqb (bit_and (mask_of p.length) (mask_of q.length)) (mask_of q.length) (nested p.length q.length (omega arith)))
 
 in_range_lem : (p : Prefix) → PrefixInRange p → MaskedInRange 32 (masked_of p)
 in_range_lem p h = record { value = h.value; mask = mask_lt p.length; clear = h.clear }

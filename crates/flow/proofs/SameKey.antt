@@ -6,21 +6,20 @@ use mathlib.Core.Bool.{Bool, true, false, ◌&&◌}
 use Prim.Native.Nat.{ℕ}
 use native.Mathlib.Omega.{arith}
 use lib.Dec.{eqb, ltb}
-use borrow.Author.Tests.{eqb-true, eq-eqb, ne_eqb, ltb-true, ltb-false}
+use borrow.Author.Tests.{eqb-true, eq-eqb, ne_eqb, ltb-true}
 use Rattle.flow.specs.Types.{Exact, Prefix, Match, Key, Ordering}
 use Rattle.flow.specs.Entries.{exact_rank, rank, match_order, key_order, is_equal, same_key}
 use Rattle.flow.specs.Inner.{same_exact, same_prefix, same_match}
-use Rattle.flow.specs.Orders.{order_of, then_by}
+use Rattle.std.specs.Ordering.{nat_cmp, ordering_then}
 use Rattle.basics.proofs.Booleans.{split, and_left, and_right, and_intro, and_assoc, and-true}
 use Rattle.flow.proofs.Entries.{exact_apart}
 
-equal_then : (a b : ℕ) (o : Ordering) → is_equal (then_by (order_of a b) o) ≡ (eqb a b && is_equal o)
-unfolding then_by order_of
+equal_then : (a b : ℕ) (o : Ordering) → is_equal (ordering_then (nat_cmp a b) o) ≡ (eqb a b && is_equal o)
 equal_then a b o = split (ltb a b)
     (λ u. let h = ltb-true a b u in rw (u, ne_eqb a b (λ e. omega arith)))
-    (λ u. let h = ltb-false a b u in split (ltb b a)
-    (λ v. let i = ltb-true b a v in rw (u, v, ne_eqb a b (λ e. omega arith)))
-    (λ v. let i = ltb-false b a v in rw (u, v, eq-eqb a b (omega arith))))
+    (λ u. split (eqb a b)
+    (λ v. rw (u, v))
+    (λ v. rw (u, v)))
 
 same_match_lem : (m n : Match) → is_equal (match_order m n) ≡ same_match m n
 unfolding match_order rank same_match

@@ -1,7 +1,8 @@
 -- Document 01, "Flow table": keys, actions, entries, and the order of a table. That it is a strict total order of the keys is
 -- proved in proofs/Entries.antt.
 use Rattle.std.specs.Prelude.{Bool, true, false, List, [], ◌∷◌, ℕ, ◌+◌, ◌<◌, eqb}
-use Rattle.flow.specs.Orders.{lexical, then_by, order_of}
+use Rattle.std.specs.Ordering.{nat_cmp, ordering_then}
+use Rattle.std.specs.Cmp.Lexicographic.{slice_cmp}
 use Rattle.flow.specs.Types.{Exact, Match, Action, Key, Entry, Ordering}
 use Rattle.flow.specs.Matches.{MatchInRange}
 
@@ -23,11 +24,11 @@ rank m =
     ∷ []
 
 unfoldable pub match_order : Match → Match → Ordering
-match_order m n = lexical (rank m) (rank n)
+match_order m n = slice_cmp nat_cmp (rank m) (rank n)
 
 -- table order: priority falling, then the match rising
 unfoldable pub key_order : Key → Key → Ordering
-key_order j k = then_by (order_of k.priority j.priority) (match_order j.pattern k.pattern)
+key_order j k = ordering_then (nat_cmp k.priority j.priority) (match_order j.pattern k.pattern)
 
 abbrev pub is_equal : Ordering → Bool
 is_equal Ordering.Less = false

@@ -4,3 +4,4 @@ pub mod Orders
 pub mod Entries
 pub mod TableOrder
 pub mod Inner
+pub mod Derived

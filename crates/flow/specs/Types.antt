@@ -6,4 +6,4 @@ pub use Rattle.flow.specs.declared.matching.Packet.{Packet}
 pub use Rattle.flow.specs.declared.action.Action.{Action}
 pub use Rattle.flow.specs.declared.entry.Key.{Key}
 pub use Rattle.flow.specs.declared.entry.Entry.{Entry}
-pub use Rattle.flow.specs.declared.ordering.Ordering.{Ordering}
+pub use Rattle.std.specs.declared.cmp.Ordering.{Ordering}

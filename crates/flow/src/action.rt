@@ -1,8 +1,8 @@
 // What is done with a packet that meets an entry.
 ghost use Rattle.std.specs.Prelude.{◌≡◌};
-ghost use Rattle.flow.specs.Entries.{action_code, same_action};
+ghost use Rattle.flow.specs.Entries.{action_code};
 
-#[derive(Clone, Copy)]
+#[derive(Clone, Copy, PartialEq, Eq)]
 pub enum Action {
     Drop,
     Controller,
@@ -17,13 +17,7 @@ impl Action {
         match self {
             Action::Drop => 0,
             Action::Controller => 1,
-            Action::Port(n) => (n as u32) + 2,
+            Action::Port(n) => n as u32 + 2,
         }
-    }
-
-    pub fn same(self, other: Action) -> bool
-        ensures { result ≡ same_action self other }
-    {
-        self.code() == other.code()
     }
 }

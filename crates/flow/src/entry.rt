@@ -1,18 +1,18 @@
 // An entry of a flow table, and the key that no other entry of its table has.
 ghost use Rattle.std.specs.Prelude.{◌≡◌};
-ghost use Rattle.flow.specs.Entries.{key_order, same_key};
+ghost use Rattle.flow.specs.Entries.{key_order};
 
 use crate::action::Action;
 use crate::matching::Match;
-use crate::ordering::Ordering;
+use std::cmp::Ordering;
 
-#[derive(Clone, Copy)]
+#[derive(Clone, Copy, PartialEq, Eq)]
 pub struct Key {
     pub priority: u16,
     pub pattern: Match,
 }
 
-#[derive(Clone, Copy)]
+#[derive(Clone, Copy, PartialEq, Eq)]
 pub struct Entry {
     pub key: Key,
     pub action: Action,
@@ -20,20 +20,12 @@ pub struct Entry {
 
 impl Key {
     // Table order: the greater priority first, then by the match.
+    #[tactic(auto, unfolding(crate::specs::Entries::key_order))]
     pub fn order(self, other: Key) -> Ordering
         ensures { result ≡ key_order self other }
     {
         let by_match = self.pattern.order(other.pattern);
-        crate::ordering::order_of(other.priority as u32, self.priority as u32, by_match)
-    }
-
-    pub fn same(self, other: Key) -> bool
-        ensures { result ≡ same_key self other }
-    {
-        if self.priority != other.priority {
-            return false;
-        }
-        self.pattern.same(other.pattern)
+        other.priority.cmp(&self.priority).then(by_match)
     }
 }
 

@@ -6,12 +6,10 @@ pub mod action;
 pub mod entry;
 pub mod exact;
 pub mod matching;
-pub mod ordering;
 pub mod prefix;
 
 pub use action::Action;
 pub use entry::{Entry, Key};
 pub use exact::Exact;
 pub use matching::{Match, Packet};
-pub use ordering::Ordering;
 pub use prefix::Prefix;

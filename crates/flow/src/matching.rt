@@ -2,13 +2,13 @@
 ghost use Rattle.std.specs.Prelude.{◌≡◌};
 ghost use Rattle.flow.specs.Matches.{fits, overlaps, within, clear};
 ghost use Rattle.flow.specs.Entries.{match_order};
-ghost use Rattle.flow.specs.Inner.{same_match};
 
 use crate::exact::Exact;
-use crate::ordering::Ordering;
 use crate::prefix::Prefix;
+use std::cmp::Ordering;
 
-#[derive(Clone, Copy)]
+// In table order: by its fields, as they are declared.
+#[derive(Clone, Copy, PartialEq, Eq, PartialOrd, Ord)]
 pub struct Match {
     pub port: Exact,
     pub vlan: Exact,
@@ -19,7 +19,7 @@ pub struct Match {
     pub dport: Exact,
 }
 
-#[derive(Clone, Copy)]
+#[derive(Clone, Copy, PartialEq, Eq)]
 pub struct Packet {
     pub port: u16,
     pub vlan: u16,
@@ -31,110 +31,57 @@ pub struct Packet {
 }
 
 impl Match {
+    #[tactic(auto, unfolding(crate::specs::Matches::fits))]
     pub fn fits(self, p: Packet) -> bool
         ensures { result ≡ fits self p }
     {
-        let port = self.port;
-        let vlan = self.vlan;
-        let proto = self.proto;
-        let sport = self.sport;
-        let dport = self.dport;
-        port.fits(p.port)
-            & (vlan.fits(p.vlan)
-                & (self.src.fits(p.src)
-                    & (self.dst.fits(p.dst)
-                        & (proto.fits(p.proto) & (sport.fits(p.sport) & dport.fits(p.dport))))))
+        self.port.fits(p.port)
+            && self.vlan.fits(p.vlan)
+            && self.src.fits(p.src)
+            && self.dst.fits(p.dst)
+            && self.proto.fits(p.proto)
+            && self.sport.fits(p.sport)
+            && self.dport.fits(p.dport)
     }
 
+    #[tactic(auto, unfolding(crate::specs::Matches::overlaps))]
     pub fn overlaps(self, other: Match) -> bool
         ensures { result ≡ overlaps self other }
     {
-        let port = self.port;
-        let its_port = other.port;
-        let vlan = self.vlan;
-        let its_vlan = other.vlan;
-        let proto = self.proto;
-        let its_proto = other.proto;
-        let sport = self.sport;
-        let its_sport = other.sport;
-        let dport = self.dport;
-        let its_dport = other.dport;
-        port.overlaps(its_port)
-            & (vlan.overlaps(its_vlan)
-                & (self.src.overlaps(other.src)
-                    & (self.dst.overlaps(other.dst)
-                        & (proto.overlaps(its_proto)
-                            & (sport.overlaps(its_sport) & dport.overlaps(its_dport))))))
+        self.port.overlaps(other.port)
+            && self.vlan.overlaps(other.vlan)
+            && self.src.overlaps(other.src)
+            && self.dst.overlaps(other.dst)
+            && self.proto.overlaps(other.proto)
+            && self.sport.overlaps(other.sport)
+            && self.dport.overlaps(other.dport)
     }
 
+    #[tactic(auto, unfolding(crate::specs::Matches::within))]
     pub fn within(self, other: Match) -> bool
         ensures { result ≡ within self other }
     {
-        let port = self.port;
-        let its_port = other.port;
-        let vlan = self.vlan;
-        let its_vlan = other.vlan;
-        let proto = self.proto;
-        let its_proto = other.proto;
-        let sport = self.sport;
-        let its_sport = other.sport;
-        let dport = self.dport;
-        let its_dport = other.dport;
-        port.within(its_port)
-            & (vlan.within(its_vlan)
-                & (self.src.within(other.src)
-                    & (self.dst.within(other.dst)
-                        & (proto.within(its_proto)
-                            & (sport.within(its_sport) & dport.within(its_dport))))))
+        self.port.within(other.port)
+            && self.vlan.within(other.vlan)
+            && self.src.within(other.src)
+            && self.dst.within(other.dst)
+            && self.proto.within(other.proto)
+            && self.sport.within(other.sport)
+            && self.dport.within(other.dport)
     }
 
     // No address bit stands past its prefix's length.
+    #[tactic(auto, unfolding(crate::specs::Matches::clear))]
     pub fn is_clear(self) -> bool
         ensures { result ≡ clear self }
     {
-        self.src.is_clear() & self.dst.is_clear()
+        self.src.is_clear() && self.dst.is_clear()
     }
 
-    pub fn same(self, other: Match) -> bool
-        ensures { result ≡ same_match self other }
-    {
-        let port = self.port;
-        let its_port = other.port;
-        let vlan = self.vlan;
-        let its_vlan = other.vlan;
-        let proto = self.proto;
-        let its_proto = other.proto;
-        let sport = self.sport;
-        let its_sport = other.sport;
-        let dport = self.dport;
-        let its_dport = other.dport;
-        port.same(its_port)
-            & (vlan.same(its_vlan)
-                & (self.src.same(other.src)
-                    & (self.dst.same(other.dst)
-                        & (proto.same(its_proto)
-                            & (sport.same(its_sport) & dport.same(its_dport))))))
-    }
-
+    #[tactic(auto, using(crate::proofs::Derived::match_in_order))]
     pub fn order(self, other: Match) -> Ordering
         ensures { result ≡ match_order self other }
     {
-        let port = self.port;
-        let its_port = other.port;
-        let vlan = self.vlan;
-        let its_vlan = other.vlan;
-        let proto = self.proto;
-        let its_proto = other.proto;
-        let sport = self.sport;
-        let its_sport = other.sport;
-        let dport = self.dport;
-        let its_dport = other.dport;
-        let by_dport = dport.order(its_dport, Ordering::Equal);
-        let by_sport = sport.order(its_sport, by_dport);
-        let by_proto = proto.order(its_proto, by_sport);
-        let by_dst = self.dst.order(other.dst, by_proto);
-        let by_src = self.src.order(other.src, by_dst);
-        let by_vlan = vlan.order(its_vlan, by_src);
-        port.order(its_port, by_vlan)
+        self.cmp(&other)
     }
 }

@@ -1,22 +1,13 @@
 // An IPv4 prefix, compared by bit masks.
-ghost use Rattle.std.specs.Prelude.{◌≡◌, ◌-◌, min};
+ghost use Rattle.std.specs.Prelude.{◌≡◌};
 ghost use Rattle.flow.specs.Matches.{mask_of, prefix_fits, prefix_overlaps, prefix_within, prefix_clear};
-ghost use Rattle.flow.specs.Inner.{same_leading, same_prefix};
-ghost use Rattle.flow.specs.Orders.{order_of, then_by};
+ghost use Rattle.flow.specs.Inner.{same_leading};
 
-use crate::ordering::Ordering;
-
-#[derive(Clone, Copy)]
+// In table order: by value, then by length.
+#[derive(Clone, Copy, PartialEq, Eq, PartialOrd, Ord)]
 pub struct Prefix {
     pub value: u32,
     pub length: u8,
-}
-
-// How many bits of an address stand past a length; none past 32 or more.
-fn bits_past(length: u8) -> u8
-    ensures { result ≡ 32 - length }
-{
-    if length < 32 { 32 - length } else { 0 }
 }
 
 // The mask of a prefix length, as many ones and then zeros: 2^32 less 2^(32 - length), which is 2^32 itself at length 0, so the
@@ -24,14 +15,8 @@ fn bits_past(length: u8) -> u8
 pub fn mask(length: u8) -> u32
     ensures { result ≡ mask_of length }
 {
-    let past = bits_past(length);
+    let past = 32u8.saturating_sub(length);
     (0x1_0000_0000u64 - (1u64 << past)) as u32
-}
-
-fn shorter(a: u8, b: u8) -> u8
-    ensures { result ≡ min a b }
-{
-    if a < b { a } else { b }
 }
 
 // Two addresses have the same first bits, as many as the length says.
@@ -53,7 +38,7 @@ impl Prefix {
     pub fn overlaps(self, other: Prefix) -> bool
         ensures { result ≡ prefix_overlaps self other }
     {
-        let n = shorter(self.length, other.length);
+        let n = self.length.min(other.length);
         same_leading(self.value, other.value, n)
     }
 
@@ -61,7 +46,7 @@ impl Prefix {
     pub fn within(self, other: Prefix) -> bool
         ensures { result ≡ prefix_within self other }
     {
-        if (self.length < other.length) & (self.length < 32) {
+        if self.length < other.length.min(32) {
             return false;
         }
         same_leading(self.value, other.value, other.length)
@@ -71,21 +56,6 @@ impl Prefix {
     pub fn is_clear(self) -> bool
         ensures { result ≡ prefix_clear self }
     {
-        let m = mask(self.length);
-        self.value & m == self.value
-    }
-
-    pub fn same(self, other: Prefix) -> bool
-        ensures { result ≡ same_prefix self other }
-    {
-        (self.value == other.value) & (self.length == other.length)
-    }
-
-    // By value, then by length.
-    pub fn order(self, other: Prefix, next: Ordering) -> Ordering
-        ensures { result ≡ then_by (order_of self.value other.value) (then_by (order_of self.length other.length) next) }
-    {
-        let by_length = crate::ordering::order_of(self.length as u32, other.length as u32, next);
-        crate::ordering::order_of(self.value, other.value, by_length)
+        self.value & mask(self.length) == self.value
     }
 }

@@ -1,2 +1,3 @@
 pub mod Joined
 pub mod ByWords
+pub mod Derived

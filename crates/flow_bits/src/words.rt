@@ -1,12 +1,12 @@
 // Words of bits, each with a mask of the bits that count.
 ghost use Rattle.std.specs.Prelude.{◌≡◌, ◌+◌, ◌≤◌};
-ghost use Rattle.flow_bits.specs.Inner.{word_overlaps, word_within, word_same, joined, InBits, exact_word, prefix_word, length_word};
+ghost use Rattle.flow_bits.specs.Inner.{word_overlaps, word_within, joined, InBits, exact_word, prefix_word, length_word};
 
 use flow::prefix::mask;
 use flow::{Exact, Prefix};
 
 // Bits, and a mask of those that count.
-#[derive(Clone, Copy)]
+#[derive(Clone, Copy, PartialEq, Eq)]
 pub struct Word {
     pub value: u64,
     pub mask: u64,
@@ -23,14 +23,7 @@ impl Word {
     pub fn within(self, other: Word) -> bool
         ensures { result ≡ word_within self other }
     {
-        (self.mask & other.mask == other.mask)
-            & (self.value & other.mask == other.value & other.mask)
-    }
-
-    pub fn same(self, other: Word) -> bool
-        ensures { result ≡ word_same self other }
-    {
-        (self.value == other.value) & (self.mask == other.mask)
+        self.mask & other.mask == other.mask && self.value & other.mask == other.value & other.mask
     }
 
     // The bits of this word above those of another, both of k bits.
@@ -61,10 +54,9 @@ impl Word {
     pub fn of_prefix(p: Prefix) -> Word
         ensures { (result ≡ prefix_word p) × InBits 32 result }
     {
-        let m = mask(p.length);
         Word {
             value: p.value as u64,
-            mask: m as u64,
+            mask: mask(p.length) as u64,
         }
     }
 

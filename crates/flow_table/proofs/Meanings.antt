@@ -3,7 +3,8 @@
 use mathlib.Core.Path.{◌≡◌, refl, sym, ◌∙◌, ap, subst}
 use mathlib.Core.Logic.{◌↔◌, ◌⊎◌, inl, inr, ⊎_elim}
 use mathlib.Core.Bool.{Bool, true, false, not, cond, or-true, true≢false, false≢true}
-use mathlib.Core.Option.{some, some-injective}
+use Rattle.std.specs.Prelude.{Some as some}
+use Rattle.std.proofs.lemmas.Option.{same_Some}
 use mathlib.Core.List.{List, [], ◌∷◌, Memᴰ}
 use Prim.Native.Nat.{ℕ, suc, ◌≤◌}
 use native.Mathlib.Omega.{arith}
@@ -87,7 +88,7 @@ insert_in k a t s e = (forth, back)
     forth m =
         let g = sym found ∙ mem_get e (insert k a t) (sorted_insert k a t s) m in
         split (same_key e.key k)
-        (λ u. let q = same_eq e.key k u in let r = some-injective a e.action (rw u at g) in inl (λ i. entry (q i) (sym r i)))
+        (λ u. let q = same_eq e.key k u in let r = same_Some a e.action (rw u at g) in inl (λ i. entry (q i) (sym r i)))
         (λ u. inr (get_mem e.key e.action t (rw u at g), λ q. true≢false (sym (same_self k) ∙ ap (λ j. same_key j k) (sym q) ∙ u)))
 
     back : Set k a t e → Memᴰ e (insert k a t)

@@ -2,7 +2,8 @@
 -- determines the table. Assumes nothing.
 use mathlib.Core.Path.{◌≡◌, refl, sym, ◌∙◌, ap, ap₂}
 use mathlib.Core.Bool.{Bool, true, false, ◌||◌, cond, true≢false}
-use mathlib.Core.Option.{Option, none, some, none-ne-some, some-injective}
+use Rattle.std.specs.Prelude.{Option, None, Some}
+use Rattle.std.proofs.lemmas.Option.{none-some, same_Some}
 use mathlib.Core.Logic.{⊎_elim}
 use mathlib.Core.List.Memᴰ
 use mathlib.Core.List.{[], ◌∷◌, Memᴰ}
@@ -60,27 +61,27 @@ sorted_assign p a [] s = tt
 sorted_assign p a (e ∷ t) s = (before_assign e.key p a t s.0, sorted_assign p a t s.1)
 
 -- what is found at a key
-pub get_insert : (k j : Key) (a : Action) (t : Table) → get k (insert j a t) ≡ cond (same_key k j) (some a) (get k t)
+pub get_insert : (k j : Key) (a : Action) (t : Table) → get k (insert j a t) ≡ cond (same_key k j) (Some a) (get k t)
 get_insert k j a [] = refl
 get_insert k j a (e ∷ t) = go (key_order j e.key) refl (get_insert k j a t)
   where
-    go : (o : Ordering) → key_order j e.key ≡ o → get k (insert j a t) ≡ cond (same_key k j) (some a) (get k t)
-        → get k (insert_by o (entry j a) e t (insert j a t)) ≡ cond (same_key k j) (some a) (get k (e ∷ t))
+    go : (o : Ordering) → key_order j e.key ≡ o → get k (insert j a t) ≡ cond (same_key k j) (Some a) (get k t)
+        → get k (insert_by o (entry j a) e t (insert j a t)) ≡ cond (same_key k j) (Some a) (get k (e ∷ t))
     go Ordering.Less q ih = refl
-    go Ordering.Equal q ih = rw (← key_order_lem.same j e.key q) (sym (cond_same (same_key k j) (some a) (some e.action) (get k t)))
-    go Ordering.Greater q ih = rw ih (cond_swap (same_key k e.key) (same_key k j) (some e.action) (some a) (get k t)
+    go Ordering.Equal q ih = rw (← key_order_lem.same j e.key q) (sym (cond_same (same_key k j) (Some a) (Some e.action) (get k t)))
+    go Ordering.Greater q ih = rw ih (cond_swap (same_key k e.key) (same_key k j) (Some e.action) (Some a) (get k t)
         (λ u v. greater_differ j e.key q (sym (same_eq k j v) ∙ same_eq k e.key u)))
 
-pub get_remove : (k : Key) (p : Key → Bool) (t : Table) → get k (remove_if p t) ≡ cond (p k) none (get k t)
+pub get_remove : (k : Key) (p : Key → Bool) (t : Table) → get k (remove_if p t) ≡ cond (p k) None (get k t)
 get_remove k p [] = go (p k)
   where
-    go : (c : Bool) → ◌≡◌ {A = Option Action} none (cond c none none)
+    go : (c : Bool) → ◌≡◌ {A = Option Action} None (cond c None None)
     go true = refl
     go false = refl
 get_remove k p (e ∷ t) = go (p e.key) refl (same_key k e.key) refl (get_remove k p t)
   where
-    go : (c : Bool) → p e.key ≡ c → (d : Bool) → same_key k e.key ≡ d → get k (remove_if p t) ≡ cond (p k) none (get k t)
-        → get k (cond c (remove_if p t) (e ∷ remove_if p t)) ≡ cond (p k) none (cond d (some e.action) (get k t))
+    go : (c : Bool) → p e.key ≡ c → (d : Bool) → same_key k e.key ≡ d → get k (remove_if p t) ≡ cond (p k) None (get k t)
+        → get k (cond c (remove_if p t) (e ∷ remove_if p t)) ≡ cond (p k) None (cond d (Some e.action) (get k t))
     go true u true v ih = let w : p k ≡ true = ap p (same_eq k e.key v) ∙ u in rw (ih, w) refl
     go true u false v ih = ih
     go false u true v ih = let w : p k ≡ false = ap p (same_eq k e.key v) ∙ u in rw (v, w) refl
@@ -89,17 +90,17 @@ get_remove k p (e ∷ t) = go (p e.key) refl (same_key k e.key) refl (get_remove
 pub get_assign : (k : Key) (p : Key → Bool) (a : Action) (t : Table) → get k (assign_if p a t) ≡ cond (p k) (overwrite a (get k t)) (get k t)
 get_assign k p a [] = go (p k)
   where
-    go : (c : Bool) → ◌≡◌ {A = Option Action} none (cond c none none)
+    go : (c : Bool) → ◌≡◌ {A = Option Action} None (cond c None None)
     go true = refl
     go false = refl
 get_assign k p a (e ∷ t) = go (same_key k e.key) refl (get_assign k p a t)
   where
-    at : (c : Bool) → some (cond c a e.action) ≡ cond c (some a) (some e.action)
+    at : (c : Bool) → Some (cond c a e.action) ≡ cond c (Some a) (Some e.action)
     at true = refl
     at false = refl
 
     go : (d : Bool) → same_key k e.key ≡ d → get k (assign_if p a t) ≡ cond (p k) (overwrite a (get k t)) (get k t)
-        → cond d (some (cond (p e.key) a e.action)) (get k (assign_if p a t)) ≡ cond (p k) (overwrite a (cond d (some e.action) (get k t))) (cond d (some e.action) (get k t))
+        → cond d (Some (cond (p e.key) a e.action)) (get k (assign_if p a t)) ≡ cond (p k) (overwrite a (cond d (Some e.action) (get k t))) (cond d (Some e.action) (get k t))
     go true v ih = rw (same_eq k e.key v) (at (p e.key))
     go false v ih = ih
 
@@ -139,25 +140,25 @@ any_remove p q h (e ∷ t) = go (q e.key) refl (p e.key) refl (any_remove p q h 
     go false u d v ih = rw (v, ih) refl
 
 -- no entry passes the test: nothing is found at a key that does
-pub none_passes : (p : Key → Bool) (t : Table) → any_of p t ≡ false → (k : Key) → p k ≡ true → get k t ≡ none
+pub none_passes : (p : Key → Bool) (t : Table) → any_of p t ≡ false → (k : Key) → p k ≡ true → get k t ≡ None
 none_passes p [] h k e = refl
 none_passes p (d ∷ t) h k e = go (p d.key) refl (same_key k d.key) refl h (λ g. none_passes p t g k e)
   where
-    go : (b : Bool) → p d.key ≡ b → (c : Bool) → same_key k d.key ≡ c → (b || any_of p t) ≡ false → (any_of p t ≡ false → get k t ≡ none)
-        → cond c (some d.action) (get k t) ≡ none
+    go : (b : Bool) → p d.key ≡ b → (c : Bool) → same_key k d.key ≡ c → (b || any_of p t) ≡ false → (any_of p t ≡ false → get k t ≡ None)
+        → cond c (Some d.action) (get k t) ≡ None
     go true u c v g ih = absurd (true≢false g)
     go false u true v g ih = absurd (true≢false (sym e ∙ ap p (same_eq k d.key v) ∙ u))
     go false u false v g ih = ih g
 
 -- what is found at the keys determines the table
-pub before_none : (k : Key) (t : Table) → Before k t → get k t ≡ none
+pub before_none : (k : Key) (t : Table) → Before k t → get k t ≡ None
 before_none k [] b = refl
 before_none k (e ∷ t) b = rw (less_differ k e.key b.0) (before_none k t b.1)
 
-pub none_some : {a : Action} → none ≡ some a → ⊥
-none_some {a} e = none-ne-some a e
+pub none_some : {a : Action} → None ≡ Some a → ⊥
+none_some {a} e = none-some a e
 
-get_head : (e : Entry) (t : Table) → get e.key (e ∷ t) ≡ some e.action
+get_head : (e : Entry) (t : Table) → get e.key (e ∷ t) ≡ Some e.action
 get_head e t = rw (same_self e.key) refl
 
 pub table_ext : (t u : Table) → Sorted t → Sorted u → ((k : Key) → get k t ≡ get k u) → t ≡ u
@@ -178,8 +179,8 @@ table_ext (d ∷ t) (e ∷ u) s r h = go (key_order d.key e.key) refl (table_ext
 
         actions : d.action ≡ e.action
         actions =
-            let f : get d.key (e ∷ u) ≡ some e.action = ap (λ (k : Key). get k (e ∷ u)) keys ∙ get_head e u in
-            some-injective d.action e.action (sym (get_head d t) ∙ h d.key ∙ f)
+            let f : get d.key (e ∷ u) ≡ Some e.action = ap (λ (k : Key). get k (e ∷ u)) keys ∙ get_head e u in
+            same_Some d.action e.action (sym (get_head d t) ∙ h d.key ∙ f)
 
         heads : d ≡ e
         heads = λ i. entry (keys i) (actions i)
@@ -190,30 +191,30 @@ table_ext (d ∷ t) (e ∷ u) s r h = go (key_order d.key e.key) refl (table_ext
             at : (b : Bool) → same_key k d.key ≡ b → get k t ≡ get k u
             at true v =
                 let w = same_eq k d.key v in
-                let f : get k t ≡ none = rw w (before_none d.key t s.0) in
-                let g : get k u ≡ none = rw (w ∙ keys) (before_none e.key u r.0) in
+                let f : get k t ≡ None = rw w (before_none d.key t s.0) in
+                let g : get k u ≡ None = rw (w ∙ keys) (before_none e.key u r.0) in
                 f ∙ sym g
             at false v =
                 let w : same_key k e.key ≡ false = ap (same_key k) (sym keys) ∙ v in
                 (rw (v, w) at (h k))
 
 -- ---- membership: an entry is in a table in order just if its key has its action there
-pub get_mem : (k : Key) (a : Action) (t : Table) → get k t ≡ some a → Memᴰ (entry k a) t
+pub get_mem : (k : Key) (a : Action) (t : Table) → get k t ≡ Some a → Memᴰ (entry k a) t
 get_mem k a [] h = absurd (none_some h)
 get_mem k a (e ∷ t) h = go (same_key k e.key) refl h (get_mem k a t)
   where
-    go : (b : Bool) → same_key k e.key ≡ b → cond b (some e.action) (get k t) ≡ some a → (get k t ≡ some a → Memᴰ (entry k a) t) → Memᴰ (entry k a) (e ∷ t)
-    go true u h ih = let q = same_eq k e.key u in let r = some-injective e.action a h in Memᴰ.head (λ i. entry (q i) (sym r i))
+    go : (b : Bool) → same_key k e.key ≡ b → cond b (Some e.action) (get k t) ≡ Some a → (get k t ≡ Some a → Memᴰ (entry k a) t) → Memᴰ (entry k a) (e ∷ t)
+    go true u h ih = let q = same_eq k e.key u in let r = same_Some e.action a h in Memᴰ.head (λ i. entry (q i) (sym r i))
     go false u h ih = Memᴰ.tail (ih h)
 
-pub mem_get : (e : Entry) (t : Table) → Sorted t → Memᴰ e t → get e.key t ≡ some e.action
+pub mem_get : (e : Entry) (t : Table) → Sorted t → Memᴰ e t → get e.key t ≡ Some e.action
 mem_get e [] s m = absurd (Memᴰ.not-nil m)
 mem_get e (d ∷ t) s m = ⊎_elim here (λ n. there (mem_get e t s.1 n)) (Memᴰ.cases_cons m)
   where
-    here : e ≡ d → get e.key (d ∷ t) ≡ some e.action
+    here : e ≡ d → get e.key (d ∷ t) ≡ Some e.action
     here q = rw q (rw (same_self d.key) refl)
 
-    there : get e.key t ≡ some e.action → get e.key (d ∷ t) ≡ some e.action
+    there : get e.key t ≡ Some e.action → get e.key (d ∷ t) ≡ Some e.action
     there h = split (same_key e.key d.key)
         (λ u. absurd (none_some (sym (before_none d.key t s.0) ∙ (rw (same_eq e.key d.key u) at h))))
         (λ u. rw u h)
@@ -223,12 +224,12 @@ pub same_entries : (t u : Table) → Sorted t → Sorted u → ((e : Entry) → 
 same_entries t u s r f g = table_ext t u s r (λ k. at k (get k t) refl (get k u) refl)
   where
     at : (k : Key) (x : Option Action) → get k t ≡ x → (y : Option Action) → get k u ≡ y → get k t ≡ get k u
-    at k none p none q = p ∙ sym q
-    at k none p (some b) q = absurd (none_some (sym p ∙ mem_get (entry k b) t s (g (entry k b) (get_mem k b u q))))
-    at k (some a) p y q = p ∙ sym (mem_get (entry k a) u r (f (entry k a) (get_mem k a t p)))
+    at k None p None q = p ∙ sym q
+    at k None p (Some b) q = absurd (none_some (sym p ∙ mem_get (entry k b) t s (g (entry k b) (get_mem k b u q))))
+    at k (Some a) p y q = p ∙ sym (mem_get (entry k a) u r (f (entry k a) (get_mem k a t p)))
 
 -- at most one entry has a key
 pub one_per_key : (t : Table) → Sorted t → (d e : Entry) → Memᴰ d t → Memᴰ e t → d.key ≡ e.key → d ≡ e
 one_per_key t s d e m n q =
-    let r = some-injective d.action e.action (sym (mem_get d t s m) ∙ ap (λ k. get k t) q ∙ mem_get e t s n) in
+    let r = same_Some d.action e.action (sym (mem_get d t s m) ∙ ap (λ k. get k t) q ∙ mem_get e t s n) in
     λ i. entry (q i) (r i)

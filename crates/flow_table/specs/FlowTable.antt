@@ -1,6 +1,5 @@
 -- Document 01, "Flow table": the table, and what each event leaves and answers.
-use Rattle.std.specs.Prelude.{◌≡◌, Bool, false, ◌&&◌, ◌||◌, not, cond, List, [], ◌∷◌, ℕ, suc, max, eqb, length}
-use Rattle.std.proofs.Math.Option.{Option, none, some}
+use Rattle.std.specs.Prelude.{◌≡◌, Bool, false, ◌&&◌, ◌||◌, not, cond, List, [], ◌∷◌, ℕ, suc, max, eqb, length, Option, None, Some}
 use Rattle.flow.specs.Matches.{fits, overlaps, within, MatchInRange, PacketInRange}
 use Rattle.flow.specs.Entries.{key_order, same_key, KeyInRange, ActionInRange, EntryInRange}
 use Rattle.flow_table.specs.Types.{Match, Packet, Action, Key, Entry, Ordering, TableOperation, Operation, Answer, Effect}
@@ -29,8 +28,8 @@ TableInRange (e ∷ t) = EntryInRange e × TableInRange t
 
 -- the action at a key, if there is an entry
 abbrev pub get : Key → Table → Option Action
-get k [] = none
-get k (e ∷ t) = cond (same_key k e.key) (some e.action) (get k t)
+get k [] = None
+get k (e ∷ t) = cond (same_key k e.key) (Some e.action) (get k t)
 
 -- ---- three changes of a table, and one question
 -- the key's action set, an old entry replaced
@@ -129,19 +128,19 @@ answer Effect.Idle t = Answer.Silent
 
 -- the same said of one key: what is found there after an event (proofs/Effects.antt, `get_after`)
 abbrev pub overwrite : Action → Option Action → Option Action
-overwrite a none = none
-overwrite a (some b) = some a
+overwrite a None = None
+overwrite a (Some b) = Some a
 
 unfoldable pub found_after : Effect → Key → Table → Option Action
 found_after (Effect.Pkt p) k t = get k t
-found_after (Effect.Add j a) k t = cond (same_key k j) (some a) (get k t)
-found_after (Effect.Addc j a) k t = cond (any_of (clash j) t) (get k t) (cond (same_key k j) (some a) (get k t))
+found_after (Effect.Add j a) k t = cond (same_key k j) (Some a) (get k t)
+found_after (Effect.Addc j a) k t = cond (any_of (clash j) t) (get k t) (cond (same_key k j) (Some a) (get k t))
 found_after (Effect.Modn j a) k t =
     cond (any_of (inside j.pattern) t)
     (cond (inside j.pattern k) (overwrite a (get k t)) (get k t))
-    (cond (same_key k j) (some a) (get k t))
-found_after (Effect.Dels j) k t = cond (same_key j k) none (get k t)
-found_after (Effect.Deln m) k t = cond (inside m k) none (get k t)
+    (cond (same_key k j) (Some a) (get k t))
+found_after (Effect.Dels j) k t = cond (same_key j k) None (get k t)
+found_after (Effect.Deln m) k t = cond (inside m k) None (get k t)
 found_after Effect.Idle k t = get k t
 
 -- the ranges of document 01, for what an event carries

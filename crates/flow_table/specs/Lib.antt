@@ -3,3 +3,4 @@ pub mod FlowTable
 pub mod Carried
 pub mod Switches
 pub mod Meanings
+pub mod Derived

@@ -4,7 +4,7 @@ pub use Rattle.flow.specs.declared.matching.Packet.{Packet}
 pub use Rattle.flow.specs.declared.action.Action.{Action}
 pub use Rattle.flow.specs.declared.entry.Key.{Key}
 pub use Rattle.flow.specs.declared.entry.Entry.{Entry}
-pub use Rattle.flow.specs.declared.ordering.Ordering.{Ordering}
+pub use Rattle.std.specs.declared.cmp.Ordering.{Ordering}
 pub use Rattle.flow_table.specs.declared.operation.Origin.{Origin}
 pub use Rattle.flow_table.specs.declared.operation.TableOperation.{TableOperation}
 pub use Rattle.flow_table.specs.declared.operation.Operation.{Operation}

@@ -19,10 +19,10 @@ pub fn carried_by(o: TableOperation) -> Carried
 {
     match o {
         TableOperation::Packet(_, p) => Carried::Packet(p),
-        TableOperation::Add(e) => Carried::Entry(e),
-        TableOperation::AddChecked(e) => Carried::Entry(e),
-        TableOperation::ModifyStrict(e) => Carried::Entry(e),
-        TableOperation::Modify(e) => Carried::Entry(e),
+        TableOperation::Add(e)
+        | TableOperation::AddChecked(e)
+        | TableOperation::ModifyStrict(e)
+        | TableOperation::Modify(e) => Carried::Entry(e),
         TableOperation::DeleteStrict(k) => Carried::Key(k),
         TableOperation::Delete(m) => Carried::Match(m),
     }

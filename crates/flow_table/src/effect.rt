@@ -3,7 +3,7 @@ ghost use Rattle.std.specs.Prelude.{◌≡◌};
 ghost use Rattle.flow_table.specs.FlowTable.{table_effect, effect_of};
 
 use crate::operation::{Operation, TableOperation};
-use flow::{Action, Key, Match, Packet};
+use flow::{Action, Entry, Key, Match, Packet};
 
 // By document 01's words; `mods` reads as `add`, `pout` as `pkt`; `oth`, `bar` and `msg` do nothing.
 #[derive(Clone, Copy)]
@@ -22,26 +22,10 @@ pub fn table_effect(o: TableOperation) -> Effect
 {
     match o {
         TableOperation::Packet(_, p) => Effect::Pkt(p),
-        TableOperation::Add(e) => {
-            let k = e.key;
-            let a = e.action;
-            Effect::Add(k, a)
-        }
-        TableOperation::AddChecked(e) => {
-            let k = e.key;
-            let a = e.action;
-            Effect::Addc(k, a)
-        }
-        TableOperation::ModifyStrict(e) => {
-            let k = e.key;
-            let a = e.action;
-            Effect::Add(k, a)
-        }
-        TableOperation::Modify(e) => {
-            let k = e.key;
-            let a = e.action;
-            Effect::Modn(k, a)
-        }
+        TableOperation::Add(Entry { key, action })
+        | TableOperation::ModifyStrict(Entry { key, action }) => Effect::Add(key, action),
+        TableOperation::AddChecked(Entry { key, action }) => Effect::Addc(key, action),
+        TableOperation::Modify(Entry { key, action }) => Effect::Modn(key, action),
         TableOperation::DeleteStrict(k) => Effect::Dels(k),
         TableOperation::Delete(m) => Effect::Deln(m),
     }
@@ -51,9 +35,7 @@ pub fn effect_of(o: Operation) -> Effect
     ensures { result ≡ effect_of o }
 {
     match o {
-        Operation::Other => Effect::Idle,
-        Operation::Barrier(_) => Effect::Idle,
-        Operation::Message(_) => Effect::Idle,
+        Operation::Other | Operation::Barrier(_) | Operation::Message(_) => Effect::Idle,
         Operation::Table(_, t) => table_effect(t),
     }
 }

@@ -8,7 +8,5 @@ use flow::Key;
 pub fn clash(j: Key, k: Key) -> bool
     ensures { result ≡ clash j k }
 {
-    let m = j.pattern;
-    let n = k.pattern;
-    (j.priority == k.priority) & m.overlaps(n)
+    j.priority == k.priority && j.pattern.overlaps(k.pattern)
 }

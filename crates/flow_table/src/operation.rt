@@ -2,7 +2,7 @@
 use flow::{Action, Entry, Key, Match, Packet};
 
 // Where a packet that meets a table came from: received by the switch, `pkt`, or sent out by the controller, `pout`.
-#[derive(Clone, Copy)]
+#[derive(Clone, Copy, PartialEq, Eq)]
 pub enum Origin {
     Received,
     SentOut,
@@ -31,7 +31,7 @@ pub enum Operation {
 
 // No answer; of a packet a miss, or the priority, how many entries fit at it and the action of the first; of a checked add
 // whether it added.
-#[derive(Clone, Copy)]
+#[derive(Clone, Copy, PartialEq, Eq)]
 pub enum Answer {
     Silent,
     Miss,

@@ -4,7 +4,8 @@
 
 ghost use Rattle.std.specs.Prelude.{◌<◌};
 
-use flow::{Action, Exact, Key, Match, Ordering, Packet, Prefix};
+use flow::{Action, Exact, Key, Match, Packet, Prefix};
+use std::cmp::Ordering;
 
 // A match a row: port, vlan, source address and length, destination address and length, proto, sport, dport; 65536 stands for `*`.
 const MATCHES: [[u32; 9]; 31] = [
@@ -188,11 +189,11 @@ fn keys<R: Print + Eprint>(rt: &R, p: u16, i: usize, q: u16, j: usize)
         pattern: sample(j),
     };
     say_order(rt, k.order(l));
-    say_if(rt, k.same(l), b" same\n", b" differ\n");
+    say_if(rt, k == l, b" same\n", b" differ\n");
 }
 
 fn actions<R: Print + Eprint>(rt: &R, a: Action, b: Action) {
-    say_if(rt, a.same(b), b"same\n", b"differ\n");
+    say_if(rt, a == b, b"same\n", b"differ\n");
 }
 
 fn rows<R: Print + Eprint>(rt: &R) {

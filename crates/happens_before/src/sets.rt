@@ -3,28 +3,13 @@ ghost use Rattle.std.specs.Prelude.{◌≡◌, ◌&&◌, ◌||◌, ℕ, eqb};
 ghost use Rattle.bit_sets.specs.Inner.{member};
 ghost use Rattle.happens_before.specs.Inner.{lacks_bit};
 
-// j is in the set.
-pub fn contains(row: [u64; 4], j: u8) -> bool
-    ensures { result ≡ member row j }
-{
-    let word = row[(j / 64) as usize];
-    (word >> (j % 64)) % 2 == 1
-}
+use bit_sets::union;
 
 // The set with j.
 pub fn with(row: [u64; 4], j: u8) -> [u64; 4]
     ensures { (k : ℕ) → member result k ≡ (eqb k j || member row k) }
 {
-    let word = row[(j / 64) as usize];
-    let mut next = row;
-    next[(j / 64) as usize] = word | (1u64 << (j % 64));
-    next
-}
-
-pub fn union(a: [u64; 4], b: [u64; 4]) -> [u64; 4]
-    ensures { (k : ℕ) → member result k ≡ (member a k || member b k) }
-{
-    [a[0] | b[0], a[1] | b[1], a[2] | b[2], a[3] | b[3]]
+    bit_sets::with(row, usize::from(j))
 }
 
 // The set; where asked for, with j and all of j's row.

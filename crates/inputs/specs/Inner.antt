@@ -1,9 +1,10 @@
 -- Inner: what the functions of this crate answer.
-use Rattle.std.specs.Prelude.{List}
-use Rattle.refusals.specs.Checks.{Checked, outcome_of}
+use Rattle.std.specs.Prelude.{List, Ok}
+use Rattle.refusals.specs.Checks.{Checked, ◌▹◌}
 use Rattle.trace_events.specs.Events.{events_of}
 use Rattle.rows.specs.Rows.{rows_of}
 use Rattle.inputs.specs.Types.{Event, Row, Inputs}
 
-abbrev pub as_inputs : Inputs → Checked (List Event × List Row)
-as_inputs r = outcome_of r.outcome (events_of r.trace, rows_of r.rows)
+-- the events and the rows that the code answers, or what is refused
+abbrev pub as_inputs : Checked Inputs → Checked (List Event × List Row)
+as_inputs r = r ▹ λ i. Ok (events_of i.trace, rows_of i.rows)

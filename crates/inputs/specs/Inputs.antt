@@ -1,6 +1,5 @@
 -- Document 01, "Refusal table": the order of checks of a call that takes a trace and tables.
-use Rattle.std.specs.Prelude.{List, ℕ}
-use Rattle.std.proofs.Common.{inr}
+use Rattle.std.specs.Prelude.{List, ℕ, Ok}
 use Rattle.refusals.specs.Checks.{Checked, ◌▹◌}
 use Rattle.trace_text.specs.TraceText.{read_trace}
 use Rattle.tables_text.specs.TableText.{read_tables}
@@ -11,4 +10,4 @@ unfoldable pub read_both : ℕ → List ℕ → List ℕ → Checked (List Event
 read_both delay trace tables =
     read_trace delay trace ▹ λ es.
     read_tables tables ▹ λ rs.
-    inr (es, rs)
+    Ok (es, rs)

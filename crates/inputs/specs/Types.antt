@@ -1,5 +1,4 @@
 -- The types that this crate's definitions speak of, under one name each.
-pub use Rattle.refusals.specs.declared.refusal.Outcome.{Outcome}
 pub use Rattle.trace_events.specs.declared.event.Event.{Event}
 pub use Rattle.rows.specs.declared.row.Row.{Row}
 pub use Rattle.inputs.specs.declared.Inputs.{Inputs}

@@ -5,12 +5,12 @@ ghost use Rattle.refusals.specs.Checks.{written};
 ghost use Rattle.list_call.specs.Races.{list_races, list_answer, list_out};
 ghost use Rattle.list_call.specs.Inner.{fitted, Lists};
 
-use call_answers::ListAnswer;
-use refusals::{Outcome, Refusal};
+use call_answers::Counts;
+use refusals::Refusal;
 use trace_events::Trace;
 
 // 31 where the buffer is too short; else the list from its start.
-fn put_list(t: Trace, delay: u32, out: &mut [u8]) -> ListAnswer
+fn put_list(t: Trace, delay: u32, out: &mut [u8]) -> Result<Counts, Refusal>
     requires { t.len ≤ 256 }
     ensures { Lists (fitted delay (events_of t) (length out.old)) result out.old out.new }
 {
@@ -18,24 +18,18 @@ fn put_list(t: Trace, delay: u32, out: &mut [u8]) -> ListAnswer
     let counts = list_pairs::list_of(t, delay, &mut pairs);
     let needed = 2 * counts.listed;
     if out.len() < needed {
-        return ListAnswer::Refused(Refusal::ListShort(needed));
+        return Err(Refusal::ListShort(needed));
     }
     out[..needed].copy_from_slice(&pairs[..needed]);
-    ListAnswer::Counts(counts)
+    Ok(counts)
 }
 
 // The list of a trace under a delay: the listed pairs from the buffer's start and the four counts, or what is refused.
-pub fn list_races(trace: &[u8], delay: u32, out: &mut [u8]) -> ListAnswer
+#[tactic(auto, unfolding(crate::specs::Races::list_races, crate::specs::Inner::fitted))]
+pub fn list_races(trace: &[u8], delay: u32, out: &mut [u8]) -> Result<Counts, Refusal>
     ensures value { result ≡ list_answer (list_races delay trace.now (length out.old)) }
     ensures out_after { out.new ≡ written (list_out (list_races delay trace.now (length out.old))) out.old }
 {
-    let read = trace_text::read_trace(trace, delay);
-    let outcome = read.outcome;
-    match outcome {
-        Outcome::Refused(r) => ListAnswer::Refused(r),
-        Outcome::Accepted => {
-            let events = read.trace;
-            put_list(events, delay, out)
-        }
-    }
+    let events = trace_text::read_trace(trace, delay)?;
+    put_list(events, delay, out)
 }

@@ -3,8 +3,10 @@ use Prim.Native.Nat.{ℕ, zero, suc, ◌+◌, ◌-◌, ◌*◌, ◌≤◌, ◌<�
 use native.Mathlib.Omega.{arith}
 use mathlib.Core.Path.{◌≡◌, sym, ap, ◌∙◌}
 use mathlib.Core.List.{List, [], ◌∷◌, ◌++◌}
-use mathlib.Core.Option.{some, some-injective}
-use lib.ListN.{length, get_or, get_elem?, drop, length-append, length-drop, get_or-append}
+use Rattle.std.specs.Prelude.{Some}
+use Rattle.std.proofs.lemmas.Option.{same_Some}
+use lib.ListN.{length, get_or, drop, length-append, length-drop, get_or-append}
+use Rattle.std.specs.List.{slice_get}
 use lib.Seq.{get_or-append-add, get_or-drop}
 use Rattle.basics.specs.Text.{starting_with}
 use Rattle.text_numbers.proofs.Readers.{nothing}
@@ -12,15 +14,15 @@ use Rattle.list_pairs.specs.List.{Pair, pair_bytes}
 use Rattle.list_pairs.proofs.PairLaws.{bytes_length}
 use Rattle.list_meaning.specs.Calls.{HasPairs}
 
-inside : (ps : List Pair) (k : ℕ) (p : Pair) → get_elem? ps k ≡ some p → k < length ps
+inside : (ps : List Pair) (k : ℕ) (p : Pair) → slice_get ps k ≡ Some p → k < length ps
 inside [] k p e = nothing e
 inside (q ∷ ps) zero p e = omega arith
 inside (q ∷ ps) (suc k) p e = omega (arith, inside ps k p e)
 
-pub bytes_at : (ps : List Pair) (k : ℕ) (p : Pair) → get_elem? ps k ≡ some p
+pub bytes_at : (ps : List Pair) (k : ℕ) (p : Pair) → slice_get ps k ≡ Some p
     → (get_or (pair_bytes ps) (2 * k) 0 ≡ p.lower) × (get_or (pair_bytes ps) (2 * k + 1) 0 ≡ p.higher)
 bytes_at [] k p e = nothing e
-bytes_at (q ∷ ps) zero p e = let s : q ≡ p = some-injective _ _ e in (ap (λ (x : Pair). x.lower) s, ap (λ (x : Pair). x.higher) s)
+bytes_at (q ∷ ps) zero p e = let s : q ≡ p = same_Some _ _ e in (ap (λ (x : Pair). x.lower) s, ap (λ (x : Pair). x.higher) s)
 bytes_at (q ∷ ps) (suc k) p e =
     let even : 2 * suc k ≡ suc (suc (2 * k)) = omega arith in
     let odd : 2 * suc k + 1 ≡ suc (suc (2 * k + 1)) = omega arith in

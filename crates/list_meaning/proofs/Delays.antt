@@ -1,5 +1,6 @@
 -- A longer delay accepts no fewer traces, orders no more pairs (`ordered_less`), and lists every pair that the shorter lists
 -- (`list_grows`). Assumes nothing.
+use Rattle.std.specs.Prelude.{Ok}
 use Prim.Native.Nat.{ℕ, ◌≤◌}
 use mathlib.Core.Path.{◌≡◌}
 use mathlib.Core.Logic.{◌↔◌, ⊎_elim, inl, inr}
@@ -26,8 +27,8 @@ module _ (d e : ℕ) (l : d ≤ e) (es : List Event) (i j : ℕ) where
   more_listed (p, u, t) = (p, λ o. u (ordered_less o), t)
 
 -- a trace that is accepted under a delay is so under a longer one
-module _ (d e : ℕ) (l : d ≤ e) (s : List ℕ) (es : List Event) (h : read_trace d s ≡ inr es) where
-  pub longer_accepted : read_trace e s ≡ inr es
+module _ (d e : ℕ) (l : d ≤ e) (s : List ℕ) (es : List Event) (h : read_trace d s ≡ Ok es) where
+  pub longer_accepted : read_trace e s ≡ Ok es
   longer_accepted = accepted_longer d e s es l h
 
   shorter : (k : Kind) (i j : ℕ) → Memᴰ (record { lower = i; higher = j }) (of_kind d k es (length es)) ↔ OfKind d k es i j

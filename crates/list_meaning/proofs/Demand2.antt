@@ -1,9 +1,9 @@
 -- Demand 2 for the list of every accepted trace text (`list_exact`). Assumes nothing.
+use Rattle.std.specs.Prelude.{Ok, Err}
 use Prim.Native.Nat.{ℕ, ◌*◌, ◌≤◌, ◌<◌}
 use native.Mathlib.Omega.{arith}
 use mathlib.Core.Path.{◌≡◌, sym, ap, subst}
 use mathlib.Core.List.{List}
-use mathlib.Core.Logic.{inl, inr}
 use lib.ListN.{length}
 use Rattle.refusals.specs.Checks.{Checked, written}
 use Rattle.refusals.proofs.Checks.{short_refused, short_passed}
@@ -21,16 +21,16 @@ use Rattle.list_meaning.proofs.OfKind.{kind_iff}
 use Rattle.list_meaning.proofs.Order.{pairs_rising}
 use Rattle.list_meaning.proofs.Bytes.{pairs_put}
 
-module _ (delay : ℕ) (s : List ℕ) (es : List Event) (h : read_trace delay s ≡ inr es) where
-  passed : (room : ℕ) → 2 * count delay listed es ≤ room → list_races delay s room ≡ inr (listing_of delay es)
+module _ (delay : ℕ) (s : List ℕ) (es : List Event) (h : read_trace delay s ≡ Ok es) where
+  passed : (room : ℕ) → 2 * count delay listed es ≤ room → list_races delay s room ≡ Ok (listing_of delay es)
   unfolding list_races
   passed room l = rw (h, short_passed room (pair_bytes (list_of delay es)) Refusal.ListShort (omega (arith, bytes_length (list_of delay es))))
 
-  refused : (room : ℕ) → room < 2 * count delay listed es → list_races delay s room ≡ inl (Refusal.ListShort (2 * count delay listed es))
+  refused : (room : ℕ) → room < 2 * count delay listed es → list_races delay s room ≡ Err (Refusal.ListShort (2 * count delay listed es))
   unfolding list_races
   refused room l =
       rw (h, short_refused room (pair_bytes (list_of delay es)) Refusal.ListShort (omega (arith, bytes_length (list_of delay es))))
-      (ap (λ (n : ℕ). inl (Refusal.ListShort n)) (bytes_length (list_of delay es)))
+      (ap (λ (n : ℕ). Err (Refusal.ListShort n)) (bytes_length (list_of delay es)))
 
   writes : (old : List ℕ) → 2 * count delay listed es ≤ length old → WritesList delay s es (list_of delay es) old
   unfolding listing_of

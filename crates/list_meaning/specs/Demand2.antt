@@ -1,6 +1,5 @@
 -- Demand 2 for the list, whole: what is said of an accepted trace text. (`list_exact`, proofs/Demand2.antt, says it of every one.)
-use Rattle.std.specs.Prelude.{◌≡◌, List, ℕ, ◌+◌, ◌*◌, ◌≤◌, ◌<◌, length}
-use Rattle.std.proofs.Common.{inl}
+use Rattle.std.specs.Prelude.{◌≡◌, List, ℕ, ◌+◌, ◌*◌, ◌≤◌, ◌<◌, length, Err}
 use Rattle.basics.specs.Searches.{sum_below}
 use Rattle.list_verdicts.specs.Kinds.{Kind, pairs, ordered, commuting, listed}
 use Rattle.list_pairs.specs.List.{of_kind, list_of, count}
@@ -18,4 +17,4 @@ pub record ListExact (delay : ℕ) (trace : List ℕ) (es : List Event) : Type 0
   pub sum : count delay pairs es ≡ count delay ordered es + count delay commuting es + count delay listed es
   -- the call returns how many there are of each kind and writes those listed; 31, the bytes needed, where the buffer is too short
   pub call : (old : List ℕ) → 2 * count delay listed es ≤ length old → WritesList delay trace es (list_of delay es) old
-  pub short : (room : ℕ) → room < 2 * count delay listed es → list_races delay trace room ≡ inl (Refusal.ListShort (2 * count delay listed es))
+  pub short : (room : ℕ) → room < 2 * count delay listed es → list_races delay trace room ≡ Err (Refusal.ListShort (2 * count delay listed es))

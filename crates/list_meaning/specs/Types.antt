@@ -4,4 +4,3 @@ pub use Rattle.flow_table.specs.declared.operation.Operation.{Operation}
 pub use Rattle.flow_table.specs.declared.effect.Effect.{Effect}
 pub use Rattle.trace_events.specs.declared.event.Event.{Event}
 pub use Rattle.refusals.specs.declared.refusal.Refusal.{Refusal}
-pub use Rattle.call_answers.specs.declared.list.ListAnswer.{ListAnswer}

@@ -29,20 +29,17 @@ pub(crate) fn counted(c: Counts, v: Verdict) -> Counts
         Verdict::Ordered => Counts {
             pairs: c.pairs + 1,
             ordered: c.ordered + 1,
-            commuting: c.commuting,
-            listed: c.listed,
+            ..c
         },
         Verdict::Commuting => Counts {
             pairs: c.pairs + 1,
-            ordered: c.ordered,
             commuting: c.commuting + 1,
-            listed: c.listed,
+            ..c
         },
         Verdict::Listed => Counts {
             pairs: c.pairs + 1,
-            ordered: c.ordered,
-            commuting: c.commuting,
             listed: c.listed + 1,
+            ..c
         },
     }
 }

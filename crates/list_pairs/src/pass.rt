@@ -19,14 +19,9 @@ fn put_listed(list: &mut [u8], at: usize, i: u8, j: u8, v: Verdict)
     requires { at + 2 ≤ length list.old }
     ensures { list.new ≡ sets list.old at (pair_bytes (only (counts listed v) (record { lower = i; higher = j }))) }
 {
-    match v {
-        Verdict::Unpaired => {}
-        Verdict::Ordered => {}
-        Verdict::Commuting => {}
-        Verdict::Listed => {
-            list[at] = i;
-            list[at + 1] = j;
-        }
+    if let Verdict::Listed = v {
+        list[at] = i;
+        list[at + 1] = j;
     }
 }
 
@@ -40,20 +35,15 @@ pub(crate) fn scan(t: Trace, delay: u32, rows: &[[u64; 4]; 256], list: &mut [u8]
 {
     let uses = all_uses(t);
     let mut sum = no_counts();
-    let mut i: usize = 0;
-    while i < t.len {
+    for i in 0..t.len {
         let a = uses[i];
-        let mut j = i + 1;
-        while j < t.len {
+        for j in i + 1..t.len {
             let b = uses[j];
             let ordered = happens_before::is_before(rows, i as u8, j as u8);
             let v = verdict_of(a, b, ordered);
             put_listed(list, 2 * sum.listed, i as u8, j as u8, v);
-            let next = counted(sum, v);
-            sum = next;
-            j += 1;
+            sum = counted(sum, v);
         }
-        i += 1;
     }
     sum
 }

@@ -1,9 +1,9 @@
 -- The refused line of a trace is no longer than a trace. Assumes nothing.
+use Rattle.std.specs.Prelude.{Err}
 use Prim.Native.Nat.{ℕ, zero, suc, ◌+◌, ◌≤◌}
 use native.Mathlib.Omega.{arith}
 use mathlib.Core.Path.{◌≡◌}
 use mathlib.Core.List.{List, [], ◌∷◌}
-use mathlib.Core.Logic.{inl}
 use lib.Dec.{eqb}
 use lib.ListN.{length, get_or, length-append}
 use Rattle.basics.specs.Text.{bytes}
@@ -38,7 +38,7 @@ text_most s Source.Trace n = omega (arith, length-append (get_or (lines s) n [])
 text_most s Source.Tables n = omega (arith, length-append (get_or (lines []) n []) (bytes "\n"), line_most [] n)
 
 -- a text that exceeds a limit has no refused line; the line of any other fits 65,536 bytes with its LF
-pub refused_text_lem : (delay : ℕ) (s : List ℕ) (r : Refusal) → read_trace delay s ≡ inl r → length (line_text (source_of r) (line_of s [] r)) ≤ 65536
+pub refused_text_lem : (delay : ℕ) (s : List ℕ) (r : Refusal) → read_trace delay s ≡ Err r → length (line_text (source_of r) (line_of s [] r)) ≤ 65536
 unfolding line_of
 refused_text_lem delay s r h =
     refused_for delay s r h

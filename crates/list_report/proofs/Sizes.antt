@@ -1,9 +1,9 @@
 -- How much what is printed can take: 425,000 bytes. Assumes nothing.
+use Rattle.std.specs.Prelude.{Ok, Err}
 use Prim.Native.Nat.{ℕ, ◌*◌, ◌<◌, ◌≤◌}
 use native.Mathlib.Omega.{arith}
 use mathlib.Core.Path.{◌≡◌, refl}
 use mathlib.Core.List.{List, [], ◌∷◌, Memᴰ}
-use mathlib.Core.Logic.{inl, inr}
 use lib.ListN.{length, length-append}
 use Rattle.text_numbers.proofs.Print.{print_short, print_length}
 use Rattle.list_pairs.specs.List.{test, Pair, list_of, pair_bytes, counts_of, listing_of}
@@ -56,5 +56,5 @@ unfolding report_text
 report_length delay s = go (read_trace delay s) refl
   where
     go : (x : Checked (List Event)) → read_trace delay s ≡ x → length (text_of delay s x) ≤ 425000
-    go (inl r) h = omega (arith, refused_length s [] r, refusal_length r, refused_text_lem delay s r h)
-    go (inr es) h = list_length delay es ((trace_accepted_iff delay s es).0 h).few
+    go (Err r) h = omega (arith, refused_length s [] r, refusal_length r, refused_text_lem delay s r h)
+    go (Ok es) h = list_length delay es ((trace_accepted_iff delay s es).0 h).few

@@ -1,6 +1,5 @@
 -- Document 01, "Program and worked lines": what `racelist` prints.
-use Rattle.std.specs.Prelude.{List, [], ◌++◌, ℕ}
-use Rattle.std.proofs.Common.{inl, inr}
+use Rattle.std.specs.Prelude.{List, [], ◌++◌, ℕ, Ok, Err}
 use Rattle.basics.specs.Text.{bytes}
 use Rattle.refusals_text.specs.Report.{key_number, refused_text}
 use Rattle.refusals.specs.Checks.{Checked}
@@ -31,8 +30,8 @@ list_text l = race_lines l.bytes ++ counts_line l.counts
 
 -- of what a trace's text is read as
 abbrev pub text_of : ℕ → List ℕ → Checked (List Event) → List ℕ
-text_of delay trace (inl r) = refused_text trace [] r
-text_of delay trace (inr es) = list_text (listing_of delay es)
+text_of delay trace (Err r) = refused_text trace [] r
+text_of delay trace (Ok es) = list_text (listing_of delay es)
 
 -- what `racelist` prints of a trace's text
 unfoldable pub report_text : ℕ → List ℕ → List ℕ

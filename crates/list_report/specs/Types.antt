@@ -2,6 +2,4 @@
 pub use Rattle.refusals.specs.declared.refusal.Refusal.{Refusal}
 pub use Rattle.refusals.specs.declared.refusal.Source.{Source}
 pub use Rattle.trace_events.specs.declared.event.Event.{Event}
-pub use Rattle.refusals.specs.declared.refusal.Outcome.{Outcome}
 pub use Rattle.call_answers.specs.declared.list.Counts.{Counts}
-pub use Rattle.trace_text.specs.declared.text.TraceRead.{TraceRead}

@@ -8,7 +8,6 @@ ghost use Rattle.basics.specs.Text.{zeros};
 ghost use Rattle.list_report.specs.Report.{race_line, race_lines, counts_line, list_text, report_text};
 
 use call_answers::Counts;
-use refusals::Outcome;
 use refusals_text::put_key_number;
 use text_numbers::put_byte;
 use trace_events::Trace;
@@ -31,11 +30,11 @@ fn put_races(out: &mut [u8], list: &[u8]) -> usize
     ensures put { Put (race_lines list.now) 0 out.old result out.new }
     ensures upper_bound { result < 2 ^ 30 }
 {
-    let mut at: usize = 0;
-    let mut i: usize = 0;
-    while i + 1 < list.len() {
-        at = put_race(out, at, list[i], list[i + 1]);
-        i = i + 2;
+    let mut at = 0;
+    let mut left = list;
+    while let [lower, higher, rest @ ..] = left {
+        at = put_race(out, at, *lower, *higher);
+        left = rest;
     }
     at
 }
@@ -73,17 +72,13 @@ fn put_listing(out: &mut [u8], t: Trace, delay: u32) -> usize
 }
 
 // What `racelist` prints of a trace under a delay.
+#[tactic(auto, unfolding(crate::specs::Report::report_text))]
 pub fn report(trace: &[u8], delay: u32, out: &mut [u8]) -> usize
     ensures put { Put (report_text delay trace.now) 0 out.old result out.new }
     ensures upper_bound { result ≤ 425000 }
 {
-    let read = trace_text::read_trace(trace, delay);
-    let outcome = read.outcome;
-    match outcome {
-        Outcome::Refused(r) => refusals_text::refused(out, trace, &trace[..0], r),
-        Outcome::Accepted => {
-            let events = read.trace;
-            put_listing(out, events, delay)
-        }
+    match trace_text::read_trace(trace, delay) {
+        Ok(events) => put_listing(out, events, delay),
+        Err(refusal) => refusals_text::refused(out, trace, &trace[..0], refusal),
     }
 }

@@ -17,9 +17,7 @@ fn print_report<R: Print + Eprint>(rt: &R, trace: &[u8]) {
 
 fn read_file<R: Files + Print + Eprint>(rt: &R, path: &[u8]) {
     let mut buf = [0u8; 65536];
-    let input = program_input::read_file(rt, path, &mut buf);
-    if input.ok {
-        let n = input.len;
+    if let Some(n) = program_input::read_file(rt, path, &mut buf) {
         print_report(rt, &buf[..n]);
     }
 }

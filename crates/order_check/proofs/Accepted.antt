@@ -3,9 +3,9 @@
 -- (`order_accepted_iff`), and the recorded order is accepted (`recorded_accepted`), where the time rule puts no later line before an
 -- earlier one. Assumes nothing.
 use mathlib.Core.Path.{◌≡◌, refl, sym, ap, ◌∙◌}
-use mathlib.Core.Logic.{◌↔◌, inr}
+use mathlib.Core.Logic.{◌↔◌}
 use mathlib.Core.Bool.{Bool, true, false, not, ◌&&◌, ◌||◌, cond, false≢true, true≢false, or-true}
-use mathlib.Core.Option.{Option, none, some}
+use Rattle.std.specs.Prelude.{Option, None, Some, Ok}
 use mathlib.Core.List.{List, [], ◌∷◌}
 use Prim.Native.Nat.{ℕ, zero, suc, ◌+◌, ◌<◌, ◌≤◌}
 use native.Mathlib.Decide.{dec_lt}
@@ -26,7 +26,7 @@ use Rattle.order_check.specs.Schedule.{complete, any_before, early_from, first_e
 use Rattle.order_check.proofs.Flags.{complete_iff}
 use Rattle.order_check.proofs.SearchLaws.{found_in, finds_in}
 
-some_none : {A : Type 0} {x : A} → some x ≡ none → ⊥
+some_none : {A : Type 0} {x : A} → Some x ≡ None → ⊥
 some_none p = let z : ◌≡◌ {A = ℕ} 0 1 = cc in omega arith
 
 -- of two events that stand in an order, one stands first
@@ -50,7 +50,7 @@ module _ (hb : ℕ → ℕ → Bool) where
   before_none i j o h k = split (hb i j) (λ b. absurd (true≢false (sym (finds_in hb j o i k b) ∙ h))) (λ b. b)
 
   -- no position is early: no event stands before one that comes before it
-  kept_none : (k : ℕ) (o : List ℕ) → ((i j : ℕ) → stands j i o ≡ true → hb i j ≡ false) → early_from hb k o ≡ none
+  kept_none : (k : ℕ) (o : List ℕ) → ((i j : ℕ) → stands j i o ≡ true → hb i j ≡ false) → early_from hb k o ≡ None
   unfolding early_from
   kept_none k [] h = refl
   kept_none k (j ∷ o) h =
@@ -58,11 +58,11 @@ module _ (hb : ℕ → ℕ → Bool) where
       (kept_none (k + 1) o (λ i m e. h i m (rw e (or-true (eqb m j && has i o)))))
 
   -- the two ways that a position comes out
-  none_parts : (b : Bool) (k : ℕ) (r : Option ℕ) → cond b (some k) r ≡ none → (b ≡ false) × (r ≡ none)
+  none_parts : (b : Bool) (k : ℕ) (r : Option ℕ) → cond b (Some k) r ≡ None → (b ≡ false) × (r ≡ None)
   none_parts true k r e = absurd (some_none e)
   none_parts false k r e = (refl, e)
 
-  none_kept_lem : (k : ℕ) (o : List ℕ) → early_from hb k o ≡ none → (i j : ℕ) → stands j i o ≡ true → hb i j ≡ false
+  none_kept_lem : (k : ℕ) (o : List ℕ) → early_from hb k o ≡ None → (i j : ℕ) → stands j i o ≡ true → hb i j ≡ false
   unfolding early_from
   none_kept_lem k [] h i j e = absurd (false≢true e)
   none_kept_lem k (x ∷ o) h i j e =
@@ -99,7 +99,7 @@ module _ (hb : ℕ → ℕ → Bool) where
   from_front j o (suc n) zero l w e f = absurd (true≢false (sym (any_at j o n (omega arith) e) ∙ f))
   from_front j o (suc n) (suc m) l w e f = (m, refl, record { later = n; after = omega arith; within = omega arith; precedes = e })
 
-  none_early : (k : ℕ) (o : List ℕ) → early_from hb k o ≡ none → (m : ℕ) → EarlyAt hb o m → ⊥
+  none_early : (k : ℕ) (o : List ℕ) → early_from hb k o ≡ None → (m : ℕ) → EarlyAt hb o m → ⊥
   unfolding early_from
   none_early k [] h m r = let w = r.within in omega arith
   none_early k (j ∷ o) h m r =
@@ -107,12 +107,12 @@ module _ (hb : ℕ → ℕ → Bool) where
       let s = from_front j o r.later m r.after r.within r.precedes p.0 in
       none_early (k + 1) o p.1 s.0 s.2
 
-  first_early_lem : (k : ℕ) (o : List ℕ) (p : ℕ) → early_from hb k o ≡ some p → (d : ℕ) × (p ≡ k + d) × LowestEarly hb o d
+  first_early_lem : (k : ℕ) (o : List ℕ) (p : ℕ) → early_from hb k o ≡ Some p → (d : ℕ) × (p ≡ k + d) × LowestEarly hb o d
   unfolding early_from
   first_early_lem k [] p h = absurd (some_none (sym h))
   first_early_lem k (j ∷ o) p h = go (any_before hb j o) refl h (first_early_lem (k + 1) o p)
     where
-      go : (b : Bool) → any_before hb j o ≡ b → cond b (some k) (early_from hb (k + 1) o) ≡ some p → (early_from hb (k + 1) o ≡ some p → (d : ℕ) × (p ≡ k + 1 + d) × LowestEarly hb o d)
+      go : (b : Bool) → any_before hb j o ≡ b → cond b (Some k) (early_from hb (k + 1) o) ≡ Some p → (early_from hb (k + 1) o ≡ Some p → (d : ℕ) × (p ≡ k + 1 + d) × LowestEarly hb o d)
           → (d : ℕ) × (p ≡ k + d) × LowestEarly hb (j ∷ o) d
       go true f e ih = (0, (let q : k ≡ p = cc in omega arith), record { early = here j o f; lowest = λ m l r. omega arith })
       go false f e ih = let s = ih e in (
@@ -125,28 +125,28 @@ module _ (hb : ℕ → ℕ → Bool) where
       )
 
 -- the position is the lowest that holds an event put before one that happens before it
-pub early_iff : (delay : ℕ) (es : List Event) (o : List ℕ) (p : ℕ) → (first_early delay es o ≡ some p) ↔ LowestEarly (before delay es) o p
+pub early_iff : (delay : ℕ) (es : List Event) (o : List ℕ) (p : ℕ) → (first_early delay es o ≡ Some p) ↔ LowestEarly (before delay es) o p
 early_iff delay es o p = (is_lowest, λ r. go (first_early delay es o) refl r)
   where
-    is_lowest : first_early delay es o ≡ some p → LowestEarly (before delay es) o p
+    is_lowest : first_early delay es o ≡ Some p → LowestEarly (before delay es) o p
     is_lowest h = let s = first_early_lem (before delay es) 0 o p h in let e : p ≡ s.0 = omega (arith, s.1) in rw e s.2
 
-    go : (x : Option ℕ) → first_early delay es o ≡ x → LowestEarly (before delay es) o p → first_early delay es o ≡ some p
-    go none e r = absurd (none_early (before delay es) 0 o e p r.early)
-    go (some q) e r =
+    go : (x : Option ℕ) → first_early delay es o ≡ x → LowestEarly (before delay es) o p → first_early delay es o ≡ Some p
+    go None e r = absurd (none_early (before delay es) 0 o e p r.early)
+    go (Some q) e r =
         let s = first_early_lem (before delay es) 0 o q e in
         let h : q ≡ s.0 = omega (arith, s.1) in
-        e ∙ ap some (h ∙ same s.0 s.2 r)
+        e ∙ ap Some (h ∙ same s.0 s.2 r)
       where
         same : (d : ℕ) → LowestEarly (before delay es) o d → LowestEarly (before delay es) o p → d ≡ p
         same d a b = elim (dec_lt d p) [ yes l ↦ absurd (b.lowest d l a.early) | no m ↦ elim (dec_lt p d) [ yes l ↦ absurd (a.lowest p l b.early) | no n ↦ omega arith ] ]
 
 module _ (delay : ℕ) (es : List Event) (clocks : InLineOrder delay es) (o : List ℕ) (order : IsOrderOf (length es) o) where
   -- no position is early exactly if each event stands after all that happen before it
-  early_none_iff : (first_early delay es o ≡ none) ↔ KeepsOrder delay es o
+  early_none_iff : (first_early delay es o ≡ None) ↔ KeepsOrder delay es o
   early_none_iff = (λ h i j c. keeps h i j c, λ k. kept_none (before delay es) 0 o (λ i j e. clear k i j e))
     where
-      keeps : first_early delay es o ≡ none → (i j : ℕ) → Chain (direct delay es) i j → stands i j o ≡ true
+      keeps : first_early delay es o ≡ None → (i j : ℕ) → Chain (direct delay es) i j → stands i j o ≡ true
       keeps h i j c =
           let l = direct_later delay es clocks c in
           or_cases (stands i j o) (stands j i o) (one_first i j o (omega arith) (order.full i (omega arith)) (order.full j l.1))
@@ -159,18 +159,18 @@ module _ (delay : ℕ) (es : List Event) (clocks : InLineOrder delay es) (o : Li
           (λ b. let c = (before_direct delay es clocks i j).0 b in let l = direct_later delay es clocks c in absurd (not_both order i j (omega arith) (k i j c) e))
           (λ b. b)
 
-passed_parts : (b : Bool) (x : Option ℕ) → (refuse_if (not b) Refusal.OrderIncomplete ▹ λ _. refuse_at x Refusal.EventTooEarly) ≡ inr tt → (b ≡ true) × (x ≡ none)
-passed_parts true none e = (refl, refl)
-passed_parts true (some p) e = let z : ◌≡◌ {A = ℕ} 0 1 = cc in absurd (omega arith)
+passed_parts : (b : Bool) (x : Option ℕ) → (refuse_if (not b) Refusal.OrderIncomplete ▹ λ _. refuse_at x Refusal.EventTooEarly) ≡ Ok tt → (b ≡ true) × (x ≡ None)
+passed_parts true None e = (refl, refl)
+passed_parts true (Some p) e = let z : ◌≡◌ {A = ℕ} 0 1 = cc in absurd (omega arith)
 passed_parts false x e = let z : ◌≡◌ {A = ℕ} 0 1 = cc in absurd (omega arith)
 
 -- an accepted order is one of the events
-pub accepted_complete : (delay : ℕ) (es : List Event) (o : List ℕ) → check_order delay es o ≡ inr tt → IsOrderOf (length es) o
+pub accepted_complete : (delay : ℕ) (es : List Event) (o : List ℕ) → check_order delay es o ≡ Ok tt → IsOrderOf (length es) o
 unfolding check_order
 accepted_complete delay es o h = (complete_iff (length es) o).0 (passed_parts (complete (length es) o) (first_early delay es o) h).0
 
 -- where the time rule puts no later line before an earlier one: accepted exactly if it is one of the events and keeps happens-before
-pub order_accepted_iff : (delay : ℕ) (es : List Event) → InLineOrder delay es → (o : List ℕ) → (check_order delay es o ≡ inr tt) ↔ (IsOrderOf (length es) o × KeepsOrder delay es o)
+pub order_accepted_iff : (delay : ℕ) (es : List Event) → InLineOrder delay es → (o : List ℕ) → (check_order delay es o ≡ Ok tt) ↔ (IsOrderOf (length es) o × KeepsOrder delay es o)
 unfolding check_order
 order_accepted_iff delay es clocks o = (
   λ h. let order = accepted_complete delay es o h in
@@ -201,5 +201,5 @@ pub recorded_keeps : (delay : ℕ) (es : List Event) → InLineOrder delay es �
 recorded_keeps delay es clocks i j c = let l = direct_later delay es clocks c in stands_from i j 0 (length es) (omega arith) l.0 (omega arith)
 
 -- the recorded order is never refused
-pub recorded_accepted : (delay : ℕ) (es : List Event) → InLineOrder delay es → check_order delay es (from 0 (length es)) ≡ inr tt
+pub recorded_accepted : (delay : ℕ) (es : List Event) → InLineOrder delay es → check_order delay es (from 0 (length es)) ≡ Ok tt
 recorded_accepted delay es clocks = (order_accepted_iff delay es clocks (from 0 (length es))).1 (recorded_order (length es), recorded_keeps delay es clocks)

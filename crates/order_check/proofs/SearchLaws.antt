@@ -1,7 +1,7 @@
 -- The steps of the search for the first place whose event must be preceded by one that is not placed yet. Assumes nothing.
 use mathlib.Core.Path.{◌≡◌, refl, sym, ap, ◌∙◌}
 use mathlib.Core.Bool.{Bool, true, false, not, ◌&&◌, ◌||◌, false≢true, or-true}
-use mathlib.Core.Option.{none, some}
+use Rattle.std.specs.Prelude.{None, Some}
 use mathlib.Core.List.{List, [], ◌∷◌}
 use Prim.Native.Nat.{ℕ, zero, suc, ◌+◌, ◌/◌, ◌≤◌, ◌<◌}
 use native.Mathlib.Numerals.{add-one}
@@ -108,7 +108,7 @@ module _ (o : List ℕ) (rows : List (List ℕ)) (inside : (i j : ℕ) → bit r
 
 -- ---- the places
 module _ (hb : ℕ → ℕ → Bool) (order : List ℕ) (p : ℕ) where
-  pub early_here : p < length order → any_before hb (get_or order p 0) (drop (p + 1) order) ≡ true → early_from hb p (drop p order) ≡ some p
+  pub early_here : p < length order → any_before hb (get_or order p 0) (drop (p + 1) order) ≡ true → early_from hb p (drop p order) ≡ Some p
   unfolding early_from
   early_here h e = ap (early_from hb p) (next order p h) ∙ rw e
 
@@ -117,6 +117,6 @@ module _ (hb : ℕ → ℕ → Bool) (order : List ℕ) (p : ℕ) where
   unfolding early_from
   in_time_lem h e = ap (early_from hb p) (next order p h) ∙ rw e
 
-  pub no_more : length order ≤ p → early_from hb p (drop p order) ≡ none
+  pub no_more : length order ≤ p → early_from hb p (drop p order) ≡ None
   unfolding early_from
   no_more h = ap (early_from hb p) (drop_of_length-le order h)

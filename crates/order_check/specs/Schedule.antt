@@ -1,6 +1,5 @@
 -- Document 01, "Refusal table", 21 and 22: which orders of a trace's events are accepted. An order is the list of its bytes.
-use Rattle.std.specs.Prelude.{◌≡◌, Bool, true, false, not, ◌&&◌, ◌||◌, cond, List, [], ◌∷◌, ℕ, ◌+◌, ◌<◌, eqb, length, get_or}
-use Rattle.std.proofs.Math.Option.{Option, none, some}
+use Rattle.std.specs.Prelude.{◌≡◌, Bool, true, false, not, ◌&&◌, ◌||◌, cond, List, [], ◌∷◌, ℕ, ◌+◌, ◌<◌, eqb, length, get_or, Option, None, Some}
 use Rattle.order_meaning.specs.Orders.{stands}
 use Rattle.basics.specs.Searches.{has, all_below}
 use Rattle.happens_before.specs.Causality.{direct, Chain, before}
@@ -18,8 +17,8 @@ any_before hb j (i ∷ o) = hb i j || any_before hb j o
 
 -- the first position, counted from k, that holds an event put before one that comes before it
 unfoldable pub early_from : (ℕ → ℕ → Bool) → ℕ → List ℕ → Option ℕ
-early_from hb k [] = none
-early_from hb k (j ∷ o) = cond (any_before hb j o) (some k) (early_from hb (k + 1) o)
+early_from hb k [] = None
+early_from hb k (j ∷ o) = cond (any_before hb j o) (Some k) (early_from hb (k + 1) o)
 
 -- the lowest position that holds an event put before one that happens before it
 abbrev pub first_early : ℕ → List Event → List ℕ → Option ℕ

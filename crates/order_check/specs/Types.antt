@@ -1,4 +1,3 @@
 -- The types that this crate's definitions speak of, under one name each.
 pub use Rattle.trace_events.specs.declared.event.Event.{Event}
 pub use Rattle.refusals.specs.declared.refusal.Refusal.{Refusal}
-pub use Rattle.order_check.specs.declared.search.Early.{Early}

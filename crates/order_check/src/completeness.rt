@@ -1,6 +1,6 @@
 // Whether each event stands in an order.
-ghost use Rattle.std.specs.Prelude.{◌≡◌, false, ℕ, ◌<◌, ◌≤◌, get_or};
-ghost use Rattle.basics.specs.Searches.{has, all_below};
+ghost use Rattle.std.specs.Prelude.{◌≡◌, ◌↔◌, true, false, ℕ, ◌<◌, ◌≤◌, get_or, IsTrue, EachIndex};
+ghost use Rattle.basics.specs.Searches.{has};
 ghost use Rattle.order_check.specs.Schedule.{complete};
 
 // A flag for each number: whether it stands in the order.
@@ -8,23 +8,16 @@ fn flags_of(order: &[u8]) -> [bool; 256]
     ensures { (i : ℕ) → i < 256 → get_or result i false ≡ has i order.now }
 {
     let mut flags = [false; 256];
-    for p in 0..order.len() {
-        let e = order[p] as usize;
-        flags[e] = true;
+    for &event in order {
+        flags[usize::from(event)] = true;
     }
     flags
 }
 
-// The first n flags are all set.
-fn all_set(flags: [bool; 256], n: usize) -> bool
-    requires { n ≤ 256 }
-    ensures { result ≡ all_below (λ i. get_or flags i false) n }
+fn all_set(flags: &[bool]) -> bool
+    ensures { IsTrue result ↔ EachIndex flags.now (λ i. get_or flags.now i false ≡ true) }
 {
-    let mut all = true;
-    for i in 0..n {
-        all = all & flags[i];
-    }
-    all
+    flags.iter().all(|set| *set)
 }
 
 // The order's length is n, and each event 0 .. n-1 stands in it.
@@ -32,6 +25,5 @@ pub fn is_complete(order: &[u8], n: usize) -> bool
     requires { n ≤ 256 }
     ensures { result ≡ complete n order.now }
 {
-    let flags = flags_of(order);
-    (order.len() == n) & all_set(flags, n)
+    order.len() == n && all_set(&flags_of(order)[..n])
 }

@@ -10,4 +10,4 @@ pub mod search;
 pub use accepting::check_order;
 pub use completeness::is_complete;
 pub use recorded::recorded_order;
-pub use search::{Early, first_early};
+pub use search::first_early;

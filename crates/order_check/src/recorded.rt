@@ -5,9 +5,5 @@ ghost use Rattle.std.specs.Prelude.{◌≡◌, ℕ, ◌<◌, length, get_or};
 pub fn recorded_order() -> [u8; 256]
     ensures { (length result ≡ 256) × ((i : ℕ) → i < 256 → get_or result i 0 ≡ i) }
 {
-    let mut order = [0u8; 256];
-    for i in 0..256 {
-        order[i] = i as u8;
-    }
-    order
+    std::array::from_fn(|i| i as u8)
 }

@@ -2,7 +2,7 @@
 -- the order by insertion moves each event past independent ones only. Assumes nothing.
 use mathlib.Core.Path.{◌≡◌, refl, sym, ◌∙◌, ap}
 use mathlib.Core.Bool.{Bool, true, false, ◌&&◌, ◌||◌, cond, false≢true, or-true}
-use mathlib.Core.Option.{some}
+use Rattle.std.specs.Prelude.{Some}
 use mathlib.Core.List.{List, [], ◌∷◌, ◌++◌}
 use Prim.Native.Nat.{ℕ, zero, suc, ◌+◌, ◌≤◌, ◌<◌}
 use native.Mathlib.Omega.{arith}
@@ -49,14 +49,14 @@ module _ {S : Type 0} {A : Type 0} (step : ℕ → S → S) (answer : ℕ → S 
   agrees_trans g h = record { states = g.states ∙ h.states; answers = λ i. g.answers i ∙ h.answers i }
 
   agrees_cons : (x : ℕ) {o p : List ℕ} {s : S} → Agrees step answer o p (step x s) → Agrees step answer (x ∷ o) (x ∷ p) s
-  agrees_cons x {s = s} g = record { states = g.states; answers = λ i. ap (λ r. cond (eqb i x) (some (answer x s)) r) (g.answers i) }
+  agrees_cons x {s = s} g = record { states = g.states; answers = λ i. ap (λ r. cond (eqb i x) (Some (answer x s)) r) (g.answers i) }
 
   -- the first two change places
   swapped : (y x : ℕ) (l : List ℕ) (s : S) → Good s → y < x → Independent step answer Good y x → Agrees step answer (x ∷ y ∷ l) (y ∷ x ∷ l) s
   swapped y x l s g h d = record {
     states = ap (run step l) (sym (d.states s g));
     answers = λ i. rw (d.first s g, d.second s g, d.states s g)
-        (cond_swap (eqb i x) (eqb i y) (some (answer x s)) (some (answer y s)) (answer_in step answer l (step y (step x s)) i)
+        (cond_swap (eqb i x) (eqb i y) (Some (answer x s)) (Some (answer y s)) (answer_in step answer l (step y (step x s)) i)
         (λ u v. let p = eqb-true i x u in let q = eqb-true i y v in omega arith));
   }
 

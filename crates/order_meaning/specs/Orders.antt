@@ -1,7 +1,6 @@
 -- Document 01, "What an order of events does", for any kind of state, step and answer. Events are numbers, and an order is the list
 -- of them, as the bytes that a caller lends.
-use Rattle.std.specs.Prelude.{◌≡◌, Bool, true, false, ◌&&◌, ◌||◌, cond, List, [], ◌∷◌, ℕ, zero, suc, ◌<◌, eqb, length}
-use Rattle.std.proofs.Math.Option.{Option, none, some}
+use Rattle.std.specs.Prelude.{◌≡◌, Bool, true, false, ◌&&◌, ◌||◌, cond, List, [], ◌∷◌, ℕ, zero, suc, ◌<◌, eqb, length, Option, None, Some}
 use Rattle.basics.specs.Searches.{has}
 
 module _ {S : Type 0} (step : ℕ → S → S) where
@@ -12,8 +11,8 @@ module _ {S : Type 0} (step : ℕ → S → S) where
 
   -- the answer of event i in an order, kept under its number
   abbrev pub answer_in : {A : Type 0} → (ℕ → S → A) → List ℕ → S → ℕ → Option A
-  answer_in answer [] s i = none
-  answer_in answer (j ∷ o) s i = cond (eqb i j) (some (answer j s)) (answer_in answer o (step j s) i)
+  answer_in answer [] s i = None
+  answer_in answer (j ∷ o) s i = cond (eqb i j) (Some (answer j s)) (answer_in answer o (step j s) i)
 
 -- the recorded order of the n events from b on
 abbrev pub from : ℕ → ℕ → List ℕ

@@ -1,6 +1,5 @@
 -- Document 01, "What an order of events does", on the tables of all switches.
-use Rattle.std.proofs.Math.Option.{Option}
-use Rattle.std.specs.Prelude.{List, ℕ}
+use Rattle.std.specs.Prelude.{List, ℕ, Option}
 use Rattle.flow_table.specs.Switches.{Tables, step_of, answer_of}
 use Rattle.order_meaning.specs.Types.{Operation, Answer}
 use Rattle.order_meaning.specs.Orders.{run, answer_in}

@@ -3,7 +3,7 @@
 -- that neither they nor the events have (`run_beyond`). Assumes nothing.
 use mathlib.Core.Path.{◌≡◌, refl, ap, ◌∙◌, fun_ext}
 use mathlib.Core.Bool.{Bool, true, false, ◌&&◌, ◌||◌, cond}
-use mathlib.Core.Option.{some}
+use Rattle.std.specs.Prelude.{Some}
 use mathlib.Core.List.{List, [], ◌∷◌}
 use Prim.Native.Nat.{ℕ, ◌+◌, ◌≤◌, ◌<◌}
 use native.Mathlib.Omega.{arith}
@@ -35,8 +35,8 @@ module _ (ev : ℕ → Operation) where
       → answer_in (λ k. step_rows (ev k)) (λ k. answer_rows (ev k)) o rs i ≡ answers ev o (tables_of rs) i
   answers_by [] rs s i = refl
   answers_by (j ∷ o) rs s i =
-      ap (λ a. cond (eqb i j) (some a) (answer_in (λ k. step_rows (ev k)) (λ k. answer_rows (ev k)) o (step_rows (ev j) rs) i)) (answer_tables (ev j) rs)
-      ∙ ap (λ r. cond (eqb i j) (some (answer_of (ev j) (tables_of rs))) r) (answers_by o (step_rows (ev j) rs) (sorted_step (ev j) rs s) i ∙ ap (λ t. answers ev o t i) (stepped j rs s))
+      ap (λ a. cond (eqb i j) (Some a) (answer_in (λ k. step_rows (ev k)) (λ k. answer_rows (ev k)) o (step_rows (ev j) rs) i)) (answer_tables (ev j) rs)
+      ∙ ap (λ r. cond (eqb i j) (Some (answer_of (ev j) (tables_of rs))) r) (answers_by o (step_rows (ev j) rs) (sorted_step (ev j) rs s) i ∙ ap (λ t. answers ev o t i) (stepped j rs s))
 
   -- the table of a switch that no event has stays
   end_beyond : (n : ℕ) → ((i : ℕ) → switch_of (ev i) < n) → (o : List ℕ) (ts : Tables) (w : ℕ) → n ≤ w → end_tables ev o ts w ≡ ts w
@@ -84,7 +84,7 @@ module _ (es : List Event) where
       go : (b : Bool) → ((b && has i o) || stands i i o) ≡ false
           → (stands i i o ≡ false → kept_in es i o (step_rows (operation_at es j) rs) a ≡ given_or a (answer_in (λ k. step_rows (operation_at es k)) (λ k. answer_rows (operation_at es k)) o (step_rows (operation_at es j) rs) i))
           → kept_in es i o (step_rows (operation_at es j) rs) (cond b (answer_rows (operation_at es j) rs) a)
-          ≡ given_or a (cond b (some (answer_rows (operation_at es j) rs)) (answer_in (λ k. step_rows (operation_at es k)) (λ k. answer_rows (operation_at es k)) o (step_rows (operation_at es j) rs) i))
+          ≡ given_or a (cond b (Some (answer_rows (operation_at es j) rs)) (answer_in (λ k. step_rows (operation_at es k)) (λ k. answer_rows (operation_at es k)) o (step_rows (operation_at es j) rs) i))
       go true k ih = kept_absent i o (step_rows (operation_at es j) rs) (answer_rows (operation_at es j) rs) (or_left (has i o) (stands i i o) k)
       go false k ih = ih k
 

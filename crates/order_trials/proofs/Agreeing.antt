@@ -4,7 +4,7 @@ use mathlib.Core.Path.{◌≡◌, refl, ap}
 use mathlib.Core.Bool.{Bool, true, ◌&&◌, false≢true}
 use mathlib.Core.Logic.{◌↔◌}
 use mathlib.Core.List.{List, [], ◌∷◌}
-use mathlib.Core.Option.{Option, none, some}
+use Rattle.std.specs.Prelude.{Option, None, Some}
 use Prim.Native.Nat.{ℕ, ◌<◌}
 use lib.ListN.{length}
 use Rattle.basics.specs.Searches.{all_below}
@@ -41,14 +41,14 @@ same_table_iff t u = (table_eq t u, λ e. rw e (table_self u))
 
 -- ---- answers
 given_self : (a : Option Answer) → same_given a a ≡ true
-given_self none = refl
-given_self (some a) = (same_answer_iff a a).1 refl
+given_self None = refl
+given_self (Some a) = (same_answer_iff a a).1 refl
 
 given_eq : (a b : Option Answer) → same_given a b ≡ true → a ≡ b
-given_eq none none h = refl
-given_eq none (some b) h = absurd (false≢true h)
-given_eq (some a) none h = absurd (false≢true h)
-given_eq (some a) (some b) h = ap some ((same_answer_iff a b).0 h)
+given_eq None None h = refl
+given_eq None (Some b) h = absurd (false≢true h)
+given_eq (Some a) None h = absurd (false≢true h)
+given_eq (Some a) (Some b) h = ap Some ((same_answer_iff a b).0 h)
 
 -- ---- two orders
 module _ (es : List Event) (start : Tables) (o q : List ℕ) where

@@ -3,7 +3,7 @@ use mathlib.Core.Path.{◌≡◌, refl, sym, ap, ◌∙◌}
 use mathlib.Core.Bool.{true, false≢true}
 use mathlib.Core.Logic.{◌↔◌}
 use mathlib.Core.List.{List, [], ◌∷◌}
-use mathlib.Core.Option.{some}
+use Rattle.std.specs.Prelude.{Some}
 use Prim.Native.Nat.{ℕ, ◌≤◌, ◌<◌}
 use native.Mathlib.Decide.{dec_lt}
 use native.Mathlib.Omega.{arith}
@@ -25,7 +25,7 @@ use Rattle.order_trials.specs.Inner.{Held}
 use Rattle.order_trials.proofs.Agreeing.{agreeing_iff}
 
 -- an event that stands in the order has an answer, silent or not
-given : (ev : ℕ → Operation) (o : List ℕ) (start : Tables) (i : ℕ) → has i o ≡ true → answers ev o start i ≡ some (given_or Answer.Silent (answers ev o start i))
+given : (ev : ℕ → Operation) (o : List ℕ) (start : Tables) (i : ℕ) → has i o ≡ true → answers ev o start i ≡ Some (given_or Answer.Silent (answers ev o start i))
 given ev [] start i h = absurd (false≢true h)
 given ev (j ∷ o) start i h = split (eqb i j) (λ u. rw u refl) (λ u. rw u (given ev o (step_of (ev j) start) i (rw u at h)))
 
@@ -41,7 +41,7 @@ module _ (es : List Event) (rs : List Row) (held : Held es rs) (o q : List ℕ) 
   -- the answers are equal where those that are kept are
   answers_as_lem : (i : ℕ) → i < length es → answers_in es o rs i ≡ answers_in es q rs i → answers (operation_at es) o (tables_of rs) i ≡ answers (operation_at es) q (tables_of rs) i
   answers_as_lem i l e =
-      given (operation_at es) o (tables_of rs) i (order.full i l) ∙ ap some (sym (kept o order i) ∙ e ∙ kept q other i)
+      given (operation_at es) o (tables_of rs) i (order.full i l) ∙ ap Some (sym (kept o order i) ∙ e ∙ kept q other i)
       ∙ sym (given (operation_at es) q (tables_of rs) i (other.full i l))
 
   pub rows_agree_iff : ((run_rows es o rs ≡ run_rows es q rs) × ((i : ℕ) → i < length es → answers_in es o rs i ≡ answers_in es q rs i)) ↔ (agreeing es (tables_of rs) o q ≡ true)

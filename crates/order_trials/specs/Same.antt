@@ -1,7 +1,6 @@
 -- Document 01, "What an order of events does": when two orders agree, as a test. That it is equality of the tables of all switches and of
 -- all answers is proved in proofs/Agreeing.antt.
-use Rattle.std.specs.Prelude.{Bool, true, false, not, ◌&&◌, ◌||◌, List, [], ◌∷◌, ℕ, eqb, length}
-use Rattle.std.proofs.Math.Option.{Option, none, some}
+use Rattle.std.specs.Prelude.{Bool, true, false, not, ◌&&◌, ◌||◌, List, [], ◌∷◌, ℕ, eqb, length, Option, None, Some}
 use Rattle.basics.specs.Searches.{all_below}
 use Rattle.flow.specs.Entries.{same_key, same_action}
 use Rattle.flow_table.specs.FlowTable.{Table}
@@ -44,10 +43,10 @@ same_answer (Answer.Hit priority count action) b = is_hit priority count action 
 same_answer (Answer.Done done) b = is_done done b
 
 abbrev pub same_given : Option Answer → Option Answer → Bool
-same_given none none = true
-same_given none (some b) = false
-same_given (some a) none = false
-same_given (some a) (some b) = same_answer a b
+same_given None None = true
+same_given None (Some b) = false
+same_given (Some a) None = false
+same_given (Some a) (Some b) = same_answer a b
 
 -- from these starting tables both orders leave each of the switches 0 to 15 the same table, and give each event the same answer
 unfoldable pub agreeing : List Event → Tables → List ℕ → List ℕ → Bool

@@ -1,6 +1,5 @@
 -- Document 01, "Many orders": orders end to end, and the byte of each.
-use Rattle.std.specs.Prelude.{Bool, not, cond, List, [], ◌∷◌, ℕ, ◌*◌, ◌/◌, eqb, length, take, drop}
-use Rattle.std.proofs.Common.{inl, inr}
+use Rattle.std.specs.Prelude.{Bool, not, cond, List, [], ◌∷◌, ℕ, ◌*◌, ◌/◌, eqb, length, take, drop, Ok, Err}
 use Rattle.basics.specs.Searches.{gather}
 use Rattle.flow_table.specs.Switches.{Tables}
 use Rattle.refusals.specs.Checks.{Checked}
@@ -24,8 +23,8 @@ order_at n os k = take n (drop (k * n) os)
 
 -- ---- the byte of an order: 2 where 21 or 22 refuses it; else 0 where it agrees with the recorded order, 1 where it doesn't
 abbrev pub byte_by : Checked (Unit {0}) → Bool → ℕ
-byte_by (inl r) same = 2
-byte_by (inr u) same = cond same 0 1
+byte_by (Err r) same = 2
+byte_by (Ok u) same = cond same 0 1
 
 unfoldable pub order_byte : ℕ → List Event → Tables → List ℕ → ℕ
 order_byte delay es start o = byte_by (check_order delay es o) (agreeing es start o (recorded es))

@@ -1,8 +1,5 @@
 -- The types that this crate's definitions speak of, under one name each.
 pub use Rattle.refusals.specs.declared.refusal.Refusal.{Refusal}
-pub use Rattle.refusals.specs.declared.refusal.Outcome.{Outcome}
 pub use Rattle.trace_events.specs.declared.event.Event.{Event}
 pub use Rattle.trace_events.specs.declared.trace.Trace.{Trace}
 pub use Rattle.call_answers.specs.declared.list.Counts.{Counts}
-pub use Rattle.call_answers.specs.declared.page.PageAnswer.{PageAnswer}
-pub use Rattle.trace_text.specs.declared.text.TraceRead.{TraceRead}

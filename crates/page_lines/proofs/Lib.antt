@@ -1,5 +1,4 @@
 pub mod Widths
-pub mod Putting
 pub mod PairColumns
 pub mod Made
 pub mod Plain

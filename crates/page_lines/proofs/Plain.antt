@@ -4,6 +4,7 @@ use native.Mathlib.Decide.{dec_lt}
 use native.Mathlib.Omega.{arith}
 use mathlib.Core.Path.{◌≡◌, refl, ◌∙◌}
 use mathlib.Core.List.{List, [], ◌∷◌, ◌++◌}
+use Rattle.std.specs.Prelude.{Option, None, Some}
 use lib.ListN.{length}
 use borrow.Author.Tests.{ne_eqb, lt-ltb, le-ltb}
 use Rattle.text_numbers.specs.Print.{decimal, print_number}
@@ -11,7 +12,7 @@ use Rattle.text_lines.specs.Inner.{newlines}
 use Rattle.text_lines.proofs.Lines.{newlines_append}
 use Rattle.trace_words.specs.Words.{word_text}
 use Rattle.page_columns.specs.Columns.{blanks, right, left, beside}
-use Rattle.page_lines.specs.Types.{Origin, Word, SwitchWord, Write, Priority, PairLine}
+use Rattle.page_lines.specs.Types.{Origin, Word, SwitchWord, Write, PairLine}
 use Rattle.page_lines.specs.PairLines.{priority_text, pair_fields, pair_text}
 
 -- one text behind another
@@ -62,10 +63,10 @@ word_plain (Word.On (SwitchWord.Write Write.Modify)) = refl
 word_plain (Word.On SwitchWord.DeleteStrict) = refl
 word_plain (Word.On SwitchWord.Delete) = refl
 
-priority_plain : (p : Priority) → newlines (priority_text p) ≡ 0
+priority_plain : (p : Option ℕ) → newlines (priority_text p) ≡ 0
 unfolding newlines
-priority_plain Priority.Absent = refl
-priority_plain (Priority.Of n) = number_plain n
+priority_plain None = refl
+priority_plain (Some n) = number_plain n
 
 -- fields without an LF, side by side
 abbrev AllPlain : List (List ℕ) → Type 0

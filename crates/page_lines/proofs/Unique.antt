@@ -4,7 +4,7 @@ use native.Mathlib.Omega.{arith}
 use mathlib.Core.Path.{◌≡◌, refl, sym, ap, ◌∙◌}
 use mathlib.Core.Bool.{true}
 use mathlib.Core.List.{List, [], ◌∷◌, ◌++◌}
-use mathlib.Core.Option.{some}
+use Rattle.std.specs.Prelude.{Some, Option, None}
 use lib.ListN.{length, get_or}
 use lib.Seq.{append_snoc}
 use Rattle.basics.specs.Text.{bytes}
@@ -18,7 +18,7 @@ use Rattle.trace_words.specs.Words.{word_text, print_word, read_word}
 use Rattle.trace_words.proofs.WordFormat.{word_format}
 use Rattle.page_columns.specs.Columns.{blanks, right, left, columns}
 use Rattle.page_columns.proofs.Columns.{Begins, right_unique}
-use Rattle.page_lines.specs.Types.{Word, Priority, PairLine}
+use Rattle.page_lines.specs.Types.{Word, PairLine}
 use Rattle.page_lines.specs.PairLines.{priority_text, pair_text}
 use Rattle.page_lines.specs.Inner.{PriorityInRange, LineInRange}
 use Rattle.page_lines.proofs.Widths.{word_short}
@@ -54,31 +54,31 @@ unfolding blanks is_digit
 blanks_end zero = record { digit = refl; comma = refl }
 blanks_end (suc n) = space_ends (blanks n)
 
-word_read : (w : Word) → read_word (left 5 (word_text w)) 0 ≡ some (w, 0 + length (print_word w))
+word_read : (w : Word) → read_word (left 5 (word_text w)) 0 ≡ Some (w, 0 + length (print_word w))
 word_read w = word_format.reads w tt (left 5 (word_text w)) 0 (blanks (4 - length (word_text w))) (blanks_end (4 - length (word_text w))) (word_then w)
 
 word_unique : (v w : Word) → left 5 (word_text v) ≡ left 5 (word_text w) → v ≡ w
 word_unique v w e = same_value (sym (word_read v) ∙ ap (λ (s : List ℕ). read_word s 0) e ∙ word_read w)
 
 -- ---- priorities
-dash_begins : Begins (priority_text Priority.Absent)
+dash_begins : Begins (priority_text None)
 dash_begins e = absurd (omega arith)
 
-priority_begins : (p : Priority) → PriorityInRange p → Begins (priority_text p)
-priority_begins Priority.Absent h = dash_begins
-priority_begins (Priority.Of n) h = begins n (omega arith)
+priority_begins : (p : Option ℕ) → PriorityInRange p → Begins (priority_text p)
+priority_begins None h = dash_begins
+priority_begins (Some n) h = begins n (omega arith)
 
 -- `-` is no number
 no_dash : {P : Type 0} (n : ℕ) → n < 65536 → bytes "-" ≡ print_number n → P
 no_dash n h e = absurd (omega (arith, digit_range 45 (ap (λ (t : List ℕ). is_digit (get_or t 0 0)) e ∙ first_digit n (omega arith))))
 
-same_priority : (p q : Priority) → PriorityInRange p → PriorityInRange q → priority_text p ≡ priority_text q → p ≡ q
-same_priority Priority.Absent Priority.Absent h k e = refl
-same_priority Priority.Absent (Priority.Of n) h k e = no_dash n k e
-same_priority (Priority.Of n) Priority.Absent h k e = no_dash n h (sym e)
-same_priority (Priority.Of n) (Priority.Of m) h k e = ap Priority.Of (unique (number_format 65535 (omega arith)) n m (omega arith) (omega arith) e)
+same_priority : (p q : Option ℕ) → PriorityInRange p → PriorityInRange q → priority_text p ≡ priority_text q → p ≡ q
+same_priority None None h k e = refl
+same_priority None (Some n) h k e = no_dash n k e
+same_priority (Some n) None h k e = no_dash n h (sym e)
+same_priority (Some n) (Some m) h k e = ap Some (unique (number_format 65535 (omega arith)) n m (omega arith) (omega arith) e)
 
-priority_unique : (p q : Priority) → PriorityInRange p → PriorityInRange q → right 5 (priority_text p) ≡ right 5 (priority_text q) → p ≡ q
+priority_unique : (p q : Option ℕ) → PriorityInRange p → PriorityInRange q → right 5 (priority_text p) ≡ right 5 (priority_text q) → p ≡ q
 priority_unique p q h k e = same_priority p q h k (right_unique 5 (priority_text p) (priority_text q) (priority_begins p h) (priority_begins q k) e)
 
 -- ---- lines

@@ -1,11 +1,12 @@
 -- What a line says is no wider than its columns. Assumes nothing.
 use Prim.Native.Nat.{ℕ, ◌<◌, ◌≤◌}
 use native.Mathlib.Omega.{arith}
+use Rattle.std.specs.Prelude.{Option, None, Some}
 use lib.ListN.{length}
 use Rattle.text_numbers.specs.Print.{print_number}
 use Rattle.text_numbers.proofs.Print.{print_short}
 use Rattle.trace_words.specs.Words.{word_text}
-use Rattle.page_lines.specs.Types.{Origin, Word, SwitchWord, Write, Priority}
+use Rattle.page_lines.specs.Types.{Origin, Word, SwitchWord, Write}
 use Rattle.page_lines.specs.PairLines.{priority_text}
 use Rattle.page_lines.specs.Inner.{PriorityInRange}
 
@@ -26,9 +27,9 @@ word_short (Word.On SwitchWord.Delete) = omega arith
 pub word_fits : (w : Word) → length (word_text w) ≤ 5
 word_fits w = omega (arith, word_short w)
 
-pub priority_fits : (p : Priority) → PriorityInRange p → length (priority_text p) ≤ 5
-priority_fits Priority.Absent h = omega arith
-priority_fits (Priority.Of n) h = print_short 4 n (omega arith)
+pub priority_fits : (p : Option ℕ) → PriorityInRange p → length (priority_text p) ≤ 5
+priority_fits None h = omega arith
+priority_fits (Some n) h = print_short 4 n (omega arith)
 
 pub event_fits : (i : ℕ) → i < 256 → length (print_number i) ≤ 3
 event_fits i h = print_short 2 i (omega arith)

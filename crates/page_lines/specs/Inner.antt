@@ -1,10 +1,10 @@
 -- Inner: the ranges that the columns of a line hold.
-use Rattle.std.specs.Prelude.{◌<◌}
-use Rattle.page_lines.specs.Types.{Priority, PairLine}
+use Rattle.std.specs.Prelude.{ℕ, ◌<◌, Option, None, Some}
+use Rattle.page_lines.specs.Types.{PairLine}
 
-abbrev pub PriorityInRange : Priority → Type 0
-PriorityInRange Priority.Absent = Unit {0}
-PriorityInRange (Priority.Of n) = n < 65536
+abbrev pub PriorityInRange : Option ℕ → Type 0
+PriorityInRange None = Unit {0}
+PriorityInRange (Some n) = n < 65536
 
 pub record LineInRange (l : PairLine) : Type 0 where
   pub lower : l.lower.event < 256

@@ -1,25 +1,25 @@
 -- Document 01, "The page": what the line of a listed pair says, and its columns.
-use Rattle.std.specs.Prelude.{List, [], ◌∷◌, ℕ}
+use Rattle.std.specs.Prelude.{List, [], ◌∷◌, ℕ, Option, None, Some}
 use Rattle.basics.specs.Text.{bytes}
 use Rattle.text_numbers.specs.Print.{print_number}
 use Rattle.flow_table.specs.Carried.{carried_of}
 use Rattle.flow_table.specs.Switches.{switch_of}
 use Rattle.trace_words.specs.Words.{word_of, word_text}
 use Rattle.page_columns.specs.Columns.{blanks, right, left, beside, StandsRight, StandsLeft, Blank}
-use Rattle.page_lines.specs.Types.{Operation, Carried, Priority, Mention, PairLine}
+use Rattle.page_lines.specs.Types.{Operation, Carried, Mention, PairLine}
 
 -- ---- what a line says
 -- the priority of what an operation carries; a packet has none, nor has the match of `deln`
-abbrev pub priority_in : Carried → Priority
-priority_in (Carried.Packet p) = Priority.Absent
-priority_in (Carried.Entry e) = Priority.Of e.key.priority
-priority_in (Carried.Key k) = Priority.Of k.priority
-priority_in (Carried.Match m) = Priority.Absent
+abbrev pub priority_in : Carried → Option ℕ
+priority_in (Carried.Packet p) = None
+priority_in (Carried.Entry e) = Some e.key.priority
+priority_in (Carried.Key k) = Some k.priority
+priority_in (Carried.Match m) = None
 
-abbrev pub priority_of : Operation → Priority
-priority_of Operation.Other = Priority.Absent
-priority_of (Operation.Barrier w) = Priority.Absent
-priority_of (Operation.Message w) = Priority.Absent
+abbrev pub priority_of : Operation → Option ℕ
+priority_of Operation.Other = None
+priority_of (Operation.Barrier w) = None
+priority_of (Operation.Message w) = None
 priority_of (Operation.Table w o) = priority_in (carried_of o)
 
 -- of an event: its number, its word, its priority
@@ -32,9 +32,9 @@ pair_line_of i o j p = record { switch = switch_of o; lower = mention_of i o; hi
 
 -- ---- how it says it
 -- a priority, or `-` where there is none
-abbrev pub priority_text : Priority → List ℕ
-priority_text Priority.Absent = bytes "-"
-priority_text (Priority.Of n) = print_number n
+abbrev pub priority_text : Option ℕ → List ℕ
+priority_text None = bytes "-"
+priority_text (Some n) = print_number n
 
 -- the fields of the line, from left to right
 unfoldable pub pair_fields : PairLine → List (List ℕ)

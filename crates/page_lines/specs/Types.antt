@@ -6,6 +6,5 @@ pub use Rattle.flow_table.specs.declared.carried.Carried.{Carried}
 pub use Rattle.trace_words.specs.declared.word.Word.{Word}
 pub use Rattle.trace_words.specs.declared.word.SwitchWord.{SwitchWord}
 pub use Rattle.trace_words.specs.declared.word.Write.{Write}
-pub use Rattle.page_lines.specs.declared.line.Priority.{Priority}
 pub use Rattle.page_lines.specs.declared.line.Mention.{Mention}
 pub use Rattle.page_lines.specs.declared.line.PairLine.{PairLine}

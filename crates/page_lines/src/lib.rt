@@ -4,5 +4,5 @@
 pub mod line; // what it says
 pub mod put; // how it says it
 
-pub use line::{Mention, PairLine, Priority, pair_line};
+pub use line::{Mention, PairLine, pair_line};
 pub use put::put_pair_line;

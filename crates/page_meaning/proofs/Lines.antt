@@ -4,9 +4,11 @@ use native.Mathlib.Omega.{arith}
 use mathlib.Core.Path.{◌≡◌, refl, sym, ap, ◌∙◌}
 use mathlib.Core.Bool.{Bool, true, false, cond, ◌||◌}
 use mathlib.Core.List.{List, [], ◌∷◌, ◌++◌, map, Memᴰ}
-use mathlib.Core.Option.{some, some-injective}
+use Rattle.std.specs.Prelude.{Some}
+use Rattle.std.proofs.lemmas.Option.{same_Some}
 use lib.Dec.{eqb}
-use lib.ListN.{length, get_or, get_elem?, length-map}
+use lib.ListN.{length, get_or, length-map}
+use Rattle.std.specs.List.{slice_get}
 use lib.Seq.{get_or-append-add}
 use borrow.Author.Tests.{ne_eqb, eqb-false}
 use Rattle.basics.specs.Searches.{has}
@@ -20,20 +22,20 @@ use Rattle.page_text.proofs.Ranges.{AllInRange}
 use Rattle.page_meaning.specs.Types.{Event, Counts, PairLine}
 
 -- the pair of number k, in its list
-pub at_member : (ps : List Pair) (k : ℕ) (p : Pair) → get_elem? ps k ≡ some p → Memᴰ p ps
+pub at_member : (ps : List Pair) (k : ℕ) (p : Pair) → slice_get ps k ≡ Some p → Memᴰ p ps
 at_member [] k p e = nothing e
-at_member (q ∷ ps) zero p e = Memᴰ.head (sym (some-injective q p e))
+at_member (q ∷ ps) zero p e = Memᴰ.head (sym (same_Some q p e))
 at_member (q ∷ ps) (suc k) p e = Memᴰ.tail (at_member ps k p e)
 
 module _ (es : List Event) where
-  pub pair_at : (ps : List Pair) (cs : List (List ℕ)) (k : ℕ) (p : Pair) → get_elem? ps k ≡ some p → get_or (map pair_text (map (said_of es) ps) ++ cs) k [] ≡ pair_text (said_of es p)
+  pub pair_at : (ps : List Pair) (cs : List (List ℕ)) (k : ℕ) (p : Pair) → slice_get ps k ≡ Some p → get_or (map pair_text (map (said_of es) ps) ++ cs) k [] ≡ pair_text (said_of es p)
   pair_at [] cs k p e = nothing e
-  pair_at (q ∷ ps) cs zero p e = ap (λ (r : Pair). pair_text (said_of es r)) (some-injective q p e)
+  pair_at (q ∷ ps) cs zero p e = ap (λ (r : Pair). pair_text (said_of es r)) (same_Some q p e)
   pair_at (q ∷ ps) cs (suc k) p e = pair_at ps cs k p e
 
-  pub range_at : (ps : List Pair) → AllInRange (map (said_of es) ps) → (k : ℕ) (p : Pair) → get_elem? ps k ≡ some p → LineInRange (said_of es p)
+  pub range_at : (ps : List Pair) → AllInRange (map (said_of es) ps) → (k : ℕ) (p : Pair) → slice_get ps k ≡ Some p → LineInRange (said_of es p)
   range_at [] h k p e = nothing e
-  range_at (q ∷ ps) h zero p e = rw (← some-injective q p e) h.0
+  range_at (q ∷ ps) h zero p e = rw (← same_Some q p e) h.0
   range_at (q ∷ ps) h (suc k) p e = range_at ps h.1 k p e
 
 pub count_at : (ls : List PairLine) (c : Counts) (n : ℕ) → length ls ≡ n → (i : ℕ) → get_or (page_lines ls c) (n + i) [] ≡ get_or (count_texts c) i []

@@ -4,11 +4,12 @@ use Prim.Native.Nat.{ℕ, ◌+◌, ◌*◌, ◌≤◌}
 use native.Mathlib.Nat.{add-zero}
 use native.Mathlib.Omega.{arith}
 use mathlib.Core.Path.{◌≡◌, refl, ap, ap₂, ◌∙◌}
-use mathlib.Core.Logic.{◌↔◌, inr}
+use mathlib.Core.Logic.{◌↔◌}
 use mathlib.Core.Bool.{true}
 use mathlib.Core.List.{List, []}
-use mathlib.Core.Option.{some}
-use lib.ListN.{length, get_or, get_elem?}
+use Rattle.std.specs.Prelude.{Some, Ok}
+use lib.ListN.{length, get_or}
+use Rattle.std.specs.List.{slice_get}
 use borrow.Author.Tests.{eqb-true}
 use Rattle.basics.specs.Text.{bytes}
 use Rattle.basics.proofs.Booleans.{and_left, and_right}
@@ -40,7 +41,7 @@ use Rattle.page_meaning.specs.PageOf.{line_on, PageOf, SamePage}
 use Rattle.page_meaning.proofs.Lines.{at_member, pair_at, range_at, count_at, none_there}
 
 -- ---- the events of an accepted trace
-module _ (delay : ℕ) (s : List ℕ) (es : List Event) (h : read_trace delay s ≡ inr es) where
+module _ (delay : ℕ) (s : List ℕ) (es : List Event) (h : read_trace delay s ≡ Ok es) where
   few : length es ≤ 256
   few = ((trace_accepted_iff delay s es).0 h).few
 
@@ -68,7 +69,7 @@ module _ (delay : ℕ) (s : List ℕ) (es : List Event) (h : read_trace delay s 
   on_line_lem : (k : ℕ) → line_on (page_text delay es) k ≡ get_or (page_lines (pair_lines delay es) (counts_of delay es)) k []
   on_line_lem k = ap (λ (ls : List (List ℕ)). get_or ls k []) (page_lines_lem delay es)
 
-  on_pair : (k : ℕ) (p : Pair) → get_elem? (list_of delay es) k ≡ some p → PairColumns (said_of es p) (line_on (page_text delay es) k)
+  on_pair : (k : ℕ) (p : Pair) → slice_get (list_of delay es) k ≡ Some p → PairColumns (said_of es p) (line_on (page_text delay es) k)
   unfolding page_lines pair_lines
   on_pair k p e = rw (on_line_lem k, pair_at es (list_of delay es) (count_texts (counts_of delay es)) k p e) (pair_columns (said_of es p) (range_at es (list_of delay es) range k p e))
 
@@ -76,7 +77,7 @@ module _ (delay : ℕ) (s : List ℕ) (es : List Event) (h : read_trace delay s 
   on_count i name n e l = rw (on_line_lem ((counts_of delay es).listed + i), count_at (pair_lines delay es) (counts_of delay es) (counts_of delay es).listed many i, e) (count_columns name n l)
 
   -- both events of a listed pair are of one switch
-  one_switch : (k : ℕ) (p : Pair) → get_elem? (list_of delay es) k ≡ some p → switch_of (event_at es p.lower).operation ≡ switch_of (event_at es p.higher).operation
+  one_switch : (k : ℕ) (p : Pair) → slice_get (list_of delay es) k ≡ Some p → switch_of (event_at es p.lower).operation ≡ switch_of (event_at es p.higher).operation
   unfolding paired
   one_switch k p e =
       let o = (event_at es p.lower).operation in
@@ -105,12 +106,12 @@ module _ (delay : ℕ) (s : List ℕ) (es : List Event) (h : read_trace delay s 
   pub page_room : length (page_text delay es) ≤ 1991284
   page_room = omega (arith, page_length delay es range, count_most delay listed es few)
 
-  pub page_fits : (room : ℕ) → 1991284 ≤ room → paged delay s room ≡ inr (page_text delay es)
+  pub page_fits : (room : ℕ) → 1991284 ≤ room → paged delay s room ≡ Ok (page_text delay es)
   unfolding paged
   page_fits room l = rw (h, short_passed room (page_text delay es) Refusal.PageShort (omega (arith, page_room))) refl
 
 -- ---- one page is one list
-module _ (d e : ℕ) (s t : List ℕ) (es fs : List Event) (h : read_trace d s ≡ inr es) (k : read_trace e t ≡ inr fs) where
+module _ (d e : ℕ) (s t : List ℕ) (es fs : List Event) (h : read_trace d s ≡ Ok es) (k : read_trace e t ≡ Ok fs) where
   pub same_page_iff : (page_text d es ≡ page_text e fs) ↔ SamePage d es e fs
   unfolding page_text
   same_page_iff = (

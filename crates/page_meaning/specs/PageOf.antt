@@ -1,7 +1,6 @@
 -- Document 01, "The page", in its words: what stands on the page of an accepted trace, and when two pages are the same.
-use Rattle.std.specs.Prelude.{◌≡◌, false, List, [], ℕ, ◌+◌, ◌*◌, ◌<◌, length, get_or}
-use Rattle.std.proofs.Math.Option.{some}
-use Rattle.std.proofs.Math.ListN.{get_elem?}
+use Rattle.std.specs.Prelude.{◌≡◌, false, List, [], ℕ, ◌+◌, ◌*◌, ◌<◌, length, get_or, Some}
+use Rattle.std.specs.List.{slice_get}
 use Rattle.basics.specs.Text.{bytes}
 use Rattle.basics.specs.Searches.{has}
 use Rattle.text_lines.specs.Lines.{lines, unlines}
@@ -25,8 +24,8 @@ pub record PageOf (delay : ℕ) (es : List Event) (page : List ℕ) : Type 0 whe
   pub plain : (k : ℕ) → has 10 (line_on page k) ≡ false
   pub size : length page ≡ 61 * ((counts_of delay es).listed + 4)
   -- the pairs in the list's order, each in its columns; both events are of the switch that stands there
-  pub pairs : (k : ℕ) (p : Pair) → get_elem? (list_of delay es) k ≡ some p → PairColumns (said_of es p) (line_on page k)
-  pub switches : (k : ℕ) (p : Pair) → get_elem? (list_of delay es) k ≡ some p → switch_of (event_at es p.lower).operation ≡ switch_of (event_at es p.higher).operation
+  pub pairs : (k : ℕ) (p : Pair) → slice_get (list_of delay es) k ≡ Some p → PairColumns (said_of es p) (line_on page k)
+  pub switches : (k : ℕ) (p : Pair) → slice_get (list_of delay es) k ≡ Some p → switch_of (event_at es p.lower).operation ≡ switch_of (event_at es p.higher).operation
   -- the four counts
   pub count_pairs : CountColumns (bytes "pairs") (counts_of delay es).pairs (line_on page (counts_of delay es).listed)
   pub count_ordered : CountColumns (bytes "ordered") (counts_of delay es).ordered (line_on page ((counts_of delay es).listed + 1))

@@ -4,5 +4,4 @@ pub use Rattle.flow_table.specs.declared.operation.Operation.{Operation}
 pub use Rattle.trace_events.specs.declared.event.Event.{Event}
 pub use Rattle.trace_events.specs.declared.trace.Trace.{Trace}
 pub use Rattle.call_answers.specs.declared.list.Counts.{Counts}
-pub use Rattle.page_lines.specs.declared.line.Priority.{Priority}
 pub use Rattle.page_lines.specs.declared.line.PairLine.{PairLine}

@@ -16,18 +16,14 @@ pub fn put_pairs(out: &mut [u8], t: Trace, list: &[u8]) -> usize
     ensures put { Put (pairs_text (events_of t) list.now) 0 out.old result out.new }
     ensures upper_bound { result < 2 ^ 30 }
 {
-    let mut at: usize = 0;
-    let mut i: usize = 0;
-    while i + 1 < list.len() {
-        let lower = list[i];
-        let higher = list[i + 1];
-        let a = t.events[lower as usize];
-        let b = t.events[higher as usize];
-        let o = a.operation;
-        let p = b.operation;
-        let line = pair_line(lower, o, higher, p);
+    let mut at = 0;
+    let mut left = list;
+    while let [lower, higher, rest @ ..] = left {
+        let a = t.events[*lower as usize];
+        let b = t.events[*higher as usize];
+        let line = pair_line(*lower, a.operation, *higher, b.operation);
         at = put_pair_line(out, at, line);
-        i = i + 2;
+        left = rest;
     }
     at
 }

@@ -1,12 +1,11 @@
 -- The delay that an argument gives.
-use Rattle.std.specs.Prelude.{ℕ, cond, List, length, eqb}
-use Rattle.std.proofs.Math.Option.{Option, none, some}
+use Rattle.std.specs.Prelude.{ℕ, cond, List, length, eqb, Option, None, Some}
 use Rattle.text_numbers.specs.Number.{read_number}
 
 -- a value that was read, where the place after it is the text's end
 abbrev pub to_end : List ℕ → Option (ℕ × ℕ) → Option ℕ
-to_end s none = none
-to_end s (some r) = cond (eqb r.1 (length s)) (some r.0) none
+to_end s None = None
+to_end s (Some r) = cond (eqb r.1 (length s)) (Some r.0) None
 
 -- the whole text is a decimal number without leading zeros, at most 4294967295
 unfoldable pub delay_of : List ℕ → Option ℕ

@@ -1,2 +1,1 @@
 pub mod Delays
-pub mod Inner

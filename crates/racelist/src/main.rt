@@ -34,9 +34,7 @@ fn answer<R: Print + Eprint>(rt: &R, trace: &[u8]) {
 
 fn main(rt: HostRuntime) {
     let mut buf = [0u8; 65536];
-    let input = program_input::read_input(&rt, b"usage: racelist < TRACE\n", &mut buf);
-    if input.ok {
-        let n = input.len;
+    if let Some(n) = program_input::read_input(&rt, b"usage: racelist < TRACE\n", &mut buf) {
         answer(&rt, &buf[..n]);
     }
 }

@@ -4,7 +4,6 @@
 ghost use Rattle.std.specs.Prelude.{◌≡◌, length};
 ghost use Rattle.basics.specs.Text.{zeros};
 
-use call_answers::PageAnswer;
 use program_delay::DELAY;
 
 // Room for the page of any trace: 61 bytes for each of 32,640 pairs and four counts.
@@ -16,12 +15,11 @@ fn page_room() -> [u8; 1991284]
 
 fn answer<R: Print + Eprint>(rt: &R, trace: &[u8]) {
     let mut out = page_room();
-    let a = page_call::page(trace, DELAY, &mut out);
-    match a {
-        PageAnswer::Length(n) => {
+    match page_call::page(trace, DELAY, &mut out) {
+        Ok(n) => {
             program_output::write(rt, text_lines::front(&out, n));
         }
-        PageAnswer::Refused(e) => {
+        Err(e) => {
             program_output::write_refused(rt, trace, b"", e);
         }
     }
@@ -29,9 +27,7 @@ fn answer<R: Print + Eprint>(rt: &R, trace: &[u8]) {
 
 fn main(rt: HostRuntime) {
     let mut buf = [0u8; 65536];
-    let input = program_input::read_input(&rt, b"usage: racepage < TRACE\n", &mut buf);
-    if input.ok {
-        let n = input.len;
+    if let Some(n) = program_input::read_input(&rt, b"usage: racepage < TRACE\n", &mut buf) {
         answer(&rt, &buf[..n]);
     }
 }

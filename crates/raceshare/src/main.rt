@@ -1,18 +1,16 @@
 // Reads a trace from standard input, and writes how many of its unordered pairs commute, or what is refused, to standard output.
 #![tactic(auto)]
 
-use call_answers::ShareAnswer;
 use program_delay::DELAY;
 
 fn answer<R: Print + Eprint>(rt: &R, trace: &[u8]) {
-    let a = share_call::share(trace, DELAY);
-    match a {
-        ShareAnswer::Share(x) => {
+    match share_call::share(trace, DELAY) {
+        Ok(x) => {
             let mut out = [0u8; 109];
             let n = share_report::put_share(&mut out, x);
             program_output::write(rt, text_lines::front(&out, n));
         }
-        ShareAnswer::Refused(e) => {
+        Err(e) => {
             program_output::write_refused(rt, trace, b"", e);
         }
     }
@@ -20,9 +18,7 @@ fn answer<R: Print + Eprint>(rt: &R, trace: &[u8]) {
 
 fn main(rt: HostRuntime) {
     let mut buf = [0u8; 65536];
-    let input = program_input::read_input(&rt, b"usage: raceshare < TRACE\n", &mut buf);
-    if input.ok {
-        let n = input.len;
+    if let Some(n) = program_input::read_input(&rt, b"usage: raceshare < TRACE\n", &mut buf) {
         answer(&rt, &buf[..n]);
     }
 }

@@ -3,4 +3,3 @@ pub use Rattle.refusals.specs.declared.refusal.Refusal.{Refusal}
 pub use Rattle.refusals.specs.declared.refusal.Source.{Source}
 pub use Rattle.refusals.specs.declared.refusal.Returned.{Returned}
 pub use Rattle.refusals.specs.declared.refused.Refused.{Refused}
-pub use Rattle.refusals.specs.declared.refusal.Outcome.{Outcome}

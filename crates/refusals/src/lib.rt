@@ -6,5 +6,5 @@ pub mod refusal;
 pub mod refused;
 
 pub use line::{refused_line, text_in};
-pub use refusal::{Outcome, Refusal, Returned, Source, first_of, refused_if};
+pub use refusal::{Refusal, Returned, Source, refused_if};
 pub use refused::Refused;

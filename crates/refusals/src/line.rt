@@ -9,24 +9,17 @@ pub fn text_in<'a>(source: Source, trace: &'a [u8], tables: &'a [u8]) -> &'a [u8
     ensures { result.now ≡ text_in source trace.now tables.now }
 {
     match source {
-        Source::Neither => {
-            return &trace[..0];
-        }
-        Source::Trace => {
-            return trace;
-        }
-        Source::Tables => {
-            return tables;
-        }
+        Source::Neither => &[],
+        Source::Trace => trace,
+        Source::Tables => tables,
     }
 }
 
 // The line without its LF, a part of the trace or of the tables; empty where the place is no line.
+#[tactic(auto, unfolding(crate::specs::Refusals::line_of))]
 pub fn refused_line<'a>(trace: &'a [u8], tables: &'a [u8], refusal: Refusal) -> &'a [u8]
     ensures { result.now ≡ line_of trace.now tables.now refusal }
 {
     let returned = refusal.returned();
-    let source = returned.source;
-    let text = text_in(source, trace, tables);
-    text_lines::nth_line(text, returned.place)
+    text_lines::nth_line(text_in(returned.source, trace, tables), returned.place)
 }

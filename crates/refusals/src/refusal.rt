@@ -1,6 +1,6 @@
 // Document 01's table of refusals: each with its place, a line, a position or the bytes needed.
-ghost use Rattle.std.specs.Prelude.{◌≡◌, cond};
-ghost use Rattle.refusals.specs.Checks.{first_of};
+ghost use Rattle.std.specs.Prelude.{◌≡◌};
+ghost use Rattle.refusals.specs.Checks.{refuse_if};
 ghost use Rattle.refusals.specs.Refusals.{refusal_row, returned};
 
 #[derive(Clone, Copy)]
@@ -31,30 +31,11 @@ pub enum Refusal {
     TimeBackward(usize),
 }
 
-// What a check answers: accepted, or what is refused.
-#[derive(Clone, Copy)]
-pub enum Outcome {
-    Accepted,
-    Refused(Refusal),
-}
-
-// The first of two outcomes that is a refusal.
-pub fn first_of(a: Outcome, b: Outcome) -> Outcome
-    ensures { result ≡ first_of a b }
+// Refused where the test says yes.
+pub fn refused_if(found: bool, refusal: Refusal) -> Result<(), Refusal>
+    ensures { result ≡ refuse_if found refusal }
 {
-    match a {
-        Outcome::Refused(_) => a,
-        Outcome::Accepted => b,
-    }
-}
-
-pub fn refused_if(found: bool, refusal: Refusal) -> Outcome
-    ensures { result ≡ cond found (Outcome.Refused refusal) Outcome.Accepted }
-{
-    if found {
-        return Outcome::Refused(refusal);
-    }
-    Outcome::Accepted
+    if found { Err(refusal) } else { Ok(()) }
 }
 
 // The text that the place of a refusal is a line of.

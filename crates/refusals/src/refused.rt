@@ -27,22 +27,18 @@ impl Refused {
         }
     }
 
+    #[tactic(auto, unfolding(crate::specs::Refused::refused_as, crate::specs::Refused::start_of, crate::specs::Refusals::line_of))]
     pub fn from<'a>(trace: &'a [u8], tables: &'a [u8], refusal: Refusal) -> Refused
         ensures { result ≡ refused_as trace.now tables.now refusal }
     {
         let returned = refusal.returned();
-        let number = returned.number as usize;
         let place = returned.place;
-        let source = returned.source;
-        let text = text_in(source, trace, tables);
-        let start = text_lines::line_start(text, place);
-        let line = text_lines::nth_line(text, place);
-        let length = line.len();
+        let text = text_in(returned.source, trace, tables);
         Refused {
-            number,
+            number: usize::from(returned.number),
             place,
-            start,
-            length,
+            start: text_lines::line_start(text, place),
+            length: text_lines::nth_line(text, place).len(),
         }
     }
 }

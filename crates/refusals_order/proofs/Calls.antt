@@ -1,8 +1,9 @@
 -- The refusal that a call tells is the first of document 01's list that applies, of the checks that concern what the call is given.
 -- Assumes nothing.
+use Rattle.std.specs.Prelude.{Ok, Err}
 use mathlib.Core.Path.{◌≡◌, sym, subst, ◌∙◌}
 use mathlib.Core.Bool.{true, true≢false}
-use mathlib.Core.Logic.{◌↔◌, inl, inr}
+use mathlib.Core.Logic.{◌↔◌}
 use mathlib.Core.List.{List, [], ◌∷◌, ◌++◌, append-nil}
 use Prim.Native.Nat.{ℕ}
 use lib.ListN.{length}
@@ -44,64 +45,64 @@ use Rattle.refusals_order.proofs.Tables.{tables_tell}
 use Rattle.refusals_order.proofs.Orders.{order_tells}
 
 -- what an accepted text says, and nothing else
-module _ {A : Type 0} (x : Checked A) (Says : A → Type 0) (iff : (a : A) → (x ≡ inr a) ↔ Says a) (a : A) (e : x ≡ inr a) where
+module _ {A : Type 0} (x : Checked A) (Says : A → Type 0) (iff : (a : A) → (x ≡ Ok a) ↔ Says a) (a : A) (e : x ≡ Ok a) where
   pub said_of_lem : (c : A → Cause) (r : Refusal) → c a r ↔ Of Says c r
   said_of_lem = of_said Says a ((iff a).0 e) (λ b t. same_value (sym ((iff b).1 t) ∙ e))
 
 -- the last check: the room for what is written
-room_tells : {B : Type 0} (room : ℕ) (refusal : ℕ → Refusal) (text : List ℕ) (value : B) → Tells (refuse_short room text refusal ▹ λ _. inr value) (short_cause room refusal text ∷ [])
-room_tells room refusal text value = then_tells (refuse_short room text refusal) (λ _. inr value) (short_cause room refusal text ∷ []) [] (short_tells room text refusal) (λ _ f. never_tells value)
+room_tells : {B : Type 0} (room : ℕ) (refusal : ℕ → Refusal) (text : List ℕ) (value : B) → Tells (refuse_short room text refusal ▹ λ _. Ok value) (short_cause room refusal text ∷ [])
+room_tells room refusal text value = then_tells (refuse_short room text refusal) (λ _. Ok value) (short_cause room refusal text ∷ []) [] (short_tells room text refusal) (λ _ f. never_tells value)
 
 -- that check after an accepted text, of what the text says
-then_short : {A B : Type 0} (x : Checked A) (Says : A → Type 0) → ((a : A) → (x ≡ inr a) ↔ Says a) → (cs : List Cause) → Tells x cs
-    → (room : ℕ) (refusal : ℕ → Refusal) (text : A → List ℕ) (value : A → B) → Tells (x ▹ λ a. refuse_short room (text a) refusal ▹ λ _. inr (value a)) (cs ++ (Of Says (λ a. short_cause room refusal (text a)) ∷ []))
+then_short : {A B : Type 0} (x : Checked A) (Says : A → Type 0) → ((a : A) → (x ≡ Ok a) ↔ Says a) → (cs : List Cause) → Tells x cs
+    → (room : ℕ) (refusal : ℕ → Refusal) (text : A → List ℕ) (value : A → B) → Tells (x ▹ λ a. refuse_short room (text a) refusal ▹ λ _. Ok (value a)) (cs ++ (Of Says (λ a. short_cause room refusal (text a)) ∷ []))
 then_short x Says iff cs t room refusal text value =
-    then_tells x (λ a. refuse_short room (text a) refusal ▹ λ _. inr (value a)) cs (Of Says (λ a. short_cause room refusal (text a)) ∷ []) t
-    (λ a e. tells_same (refuse_short room (text a) refusal ▹ λ _. inr (value a)) (short_cause room refusal (text a) ∷ [])
+    then_tells x (λ a. refuse_short room (text a) refusal ▹ λ _. Ok (value a)) cs (Of Says (λ a. short_cause room refusal (text a)) ∷ []) t
+    (λ a e. tells_same (refuse_short room (text a) refusal ▹ λ _. Ok (value a)) (short_cause room refusal (text a) ∷ [])
     (room_tells room refusal (text a) (value a))
     (Of Says (λ b. short_cause room refusal (text b)) ∷ [])
     (said_of_lem x Says iff a e (λ b. short_cause room refusal (text b)), tt))
 
 -- THE refusal of the list call: the first of 1 to 8, 54, 55, 31 that applies
-pub list_refused_iff : (delay : ℕ) (trace : List ℕ) (room : ℕ) (r : Refusal) → (list_races delay trace room ≡ inl r) ↔ FirstOf (list_causes delay trace room) r
+pub list_refused_iff : (delay : ℕ) (trace : List ℕ) (room : ℕ) (r : Refusal) → (list_races delay trace room ≡ Err r) ↔ FirstOf (list_causes delay trace room) r
 unfolding list_races list_causes
 list_refused_iff delay trace room = then_short (read_trace delay trace) (IsTrace delay trace) (trace_accepted_iff delay trace) (trace_causes delay trace) (trace_tells delay trace) room Refusal.ListShort (λ es. pair_bytes (list_of delay es)) (listing_of delay)
 
 -- THE refusal of the page: the first of 1 to 8, 54, 55, 51 that applies
-pub page_refused_iff : (delay : ℕ) (trace : List ℕ) (room : ℕ) (r : Refusal) → (paged delay trace room ≡ inl r) ↔ FirstOf (page_causes delay trace room) r
+pub page_refused_iff : (delay : ℕ) (trace : List ℕ) (room : ℕ) (r : Refusal) → (paged delay trace room ≡ Err r) ↔ FirstOf (page_causes delay trace room) r
 unfolding paged page_causes
 page_refused_iff delay trace room = then_short (read_trace delay trace) (IsTrace delay trace) (trace_accepted_iff delay trace) (trace_causes delay trace) (trace_tells delay trace) room Refusal.PageShort (page_text delay) (page_text delay)
 
 -- no check follows an accepted text
-then_none : {A B : Type 0} (x : Checked A) (cs : List Cause) → Tells x cs → (value : A → B) → Tells (x ▹ λ a. inr (value a)) cs
+then_none : {A B : Type 0} (x : Checked A) (cs : List Cause) → Tells x cs → (value : A → B) → Tells (x ▹ λ a. Ok (value a)) cs
 then_none x cs t value =
-    subst (Tells (x ▹ λ a. inr (value a))) (append-nil cs) (then_tells x (λ a. inr (value a)) cs [] t (λ a e. never_tells (value a)))
+    subst (Tells (x ▹ λ a. Ok (value a))) (append-nil cs) (then_tells x (λ a. Ok (value a)) cs [] t (λ a e. never_tells (value a)))
 
 -- THE refusal of the share: the first of 1 to 8 that applies
-pub share_refused_iff : (delay : ℕ) (trace : List ℕ) (r : Refusal) → (shared delay trace ≡ inl r) ↔ FirstOf (share_causes delay trace) r
+pub share_refused_iff : (delay : ℕ) (trace : List ℕ) (r : Refusal) → (shared delay trace ≡ Err r) ↔ FirstOf (share_causes delay trace) r
 unfolding shared
 share_refused_iff delay trace = then_none (read_trace delay trace) (trace_causes delay trace) (trace_tells delay trace) (λ es. share_of (counts_of delay es))
 
 -- THE refusal of the normaliser: the first of 11 to 16, 32 that applies
-pub normal_refused_iff : (tables : List ℕ) (room : ℕ) (r : Refusal) → (normalised tables room ≡ inl r) ↔ FirstOf (normal_causes tables room) r
+pub normal_refused_iff : (tables : List ℕ) (room : ℕ) (r : Refusal) → (normalised tables room ≡ Err r) ↔ FirstOf (normal_causes tables room) r
 unfolding normalised normal_causes
 normal_refused_iff tables room = then_short (read_tables tables) (IsTables tables) (tables_accepted_iff tables) (tables_causes tables) (tables_tell tables) room Refusal.TablesShort normal_text normal_text
 
 -- ---- a trace and a table text
 module _ (delay : ℕ) (trace tables : List ℕ) where
-  module _ (es : List Event) (e : read_trace delay trace ≡ inr es) where
+  module _ (es : List Event) (e : read_trace delay trace ≡ Ok es) where
     by_trace : (c : List Event → Cause) (r : Refusal) → c es r ↔ Of (IsTrace delay trace) c r
     by_trace = said_of_lem (read_trace delay trace) (IsTrace delay trace) (trace_accepted_iff delay trace) es e
 
-    by_both : (rs : List Row) → read_tables tables ≡ inr rs → (c : List Event → List Row → Cause) (r : Refusal) → c es rs r ↔ OfBoth delay trace tables c r
+    by_both : (rs : List Row) → read_tables tables ≡ Ok rs → (c : List Event → List Row → Cause) (r : Refusal) → c es rs r ↔ OfBoth delay trace tables c r
     by_both rs f c r =
         let inner = said_of_lem (read_tables tables) (IsTables tables) (tables_accepted_iff tables) rs f (c es) r in
         let outer = by_trace (λ v. Of (IsTables tables) (c v)) r in
         (λ h. outer.0 (inner.0 h), λ h. inner.1 (outer.1 h))
 
   -- checks that follow both texts, of what they say
-  both_tell : {A : Type 0} (next : List Event → List Row → Checked A) (causes : List Event → List Row → List Cause) → ((es : List Event) → read_trace delay trace ≡ inr es → (rs : List Row) → Tells (next es rs) (causes es rs))
-      → (rest : List Cause) → ((es : List Event) → read_trace delay trace ≡ inr es → (rs : List Row) → read_tables tables ≡ inr rs → Same (causes es rs) rest)
+  both_tell : {A : Type 0} (next : List Event → List Row → Checked A) (causes : List Event → List Row → List Cause) → ((es : List Event) → read_trace delay trace ≡ Ok es → (rs : List Row) → Tells (next es rs) (causes es rs))
+      → (rest : List Cause) → ((es : List Event) → read_trace delay trace ≡ Ok es → (rs : List Row) → read_tables tables ≡ Ok rs → Same (causes es rs) rest)
       → Tells (read_trace delay trace ▹ λ es. read_tables tables ▹ λ rs. next es rs) (trace_causes delay trace ++ (tables_causes tables ++ rest))
   both_tell next causes tells rest same =
       then_tells (read_trace delay trace) (λ es. read_tables tables ▹ λ rs. next es rs) (trace_causes delay trace) (tables_causes tables ++ rest) (trace_tells delay trace)
@@ -120,13 +121,13 @@ module _ (delay : ℕ) (trace tables o : List ℕ) (room room' : ℕ) where
         let texts = texts_of es o (tables_of rs) in
         then_tells (check_order delay es o) (λ _. fitting_both texts room room') (order_causes delay o es) (end_short_cause o room es rs ∷ answers_short_cause o room' es rs ∷ [])
         (order_tells delay es clocks o)
-        (λ _ a. then_tells (refuse_short room texts.tables Refusal.TablesShort) (λ _. refuse_short room' texts.answers Refusal.AnswersShort ▹ λ _. inr texts)
+        (λ _ a. then_tells (refuse_short room texts.tables Refusal.TablesShort) (λ _. refuse_short room' texts.answers Refusal.AnswersShort ▹ λ _. Ok texts)
         (end_short_cause o room es rs ∷ []) (answers_short_cause o room' es rs ∷ [])
         (short_tells room texts.tables Refusal.TablesShort)
         (λ _ b. room_tells room' Refusal.AnswersShort texts.answers texts))
 
   -- THE refusal of a replay: the first of 1 to 8, 54, 55, 11 to 16, 21, 22, 32, 33 that applies
-  pub replay_refused_iff : (r : Refusal) → (replayed delay trace tables o room room' ≡ inl r) ↔ FirstOf (replay_causes delay trace tables o room room') r
+  pub replay_refused_iff : (r : Refusal) → (replayed delay trace tables o room room' ≡ Err r) ↔ FirstOf (replay_causes delay trace tables o room room') r
   unfolding replayed replay_causes
   replay_refused_iff =
       both_tell delay trace tables (λ es rs. from_tables delay es (tables_of rs) o room room') causes (λ es e rs. replay_tells es rs (accepted_in_line_order delay trace es e))
@@ -147,13 +148,13 @@ module _ (delay : ℕ) (trace tables os : List ℕ) (room : ℕ) where
   tried_tells : (es : List Event) (rs : List Row) → Tells (tried_from delay es (tables_of rs) os room) (uneven_cause os es ∷ trials_short_cause delay os room es rs ∷ [])
   tried_tells es rs =
       let bytes = order_bytes delay es (tables_of rs) os in
-      then_tells (refuse_if (uneven (length es) (length os)) Refusal.OrdersUneven) (λ _. refuse_short room bytes Refusal.TrialsShort ▹ λ _. inr bytes)
+      then_tells (refuse_if (uneven (length es) (length os)) Refusal.OrdersUneven) (λ _. refuse_short room bytes Refusal.TrialsShort ▹ λ _. Ok bytes)
       (uneven_cause os es ∷ []) (trials_short_cause delay os room es rs ∷ [])
       (when_tells (uneven (length es) (length os)) (Uneven es os) (uneven_iff es os) Refusal.OrdersUneven)
       (λ _ a. room_tells room Refusal.TrialsShort bytes bytes)
 
   -- THE refusal of the call that tries orders: the first of 1 to 8, 54, 55, 11 to 16, 52, 53 that applies
-  pub trials_refused_iff : (r : Refusal) → (tried delay trace tables os room ≡ inl r) ↔ FirstOf (trials_causes delay trace tables os room) r
+  pub trials_refused_iff : (r : Refusal) → (tried delay trace tables os room ≡ Err r) ↔ FirstOf (trials_causes delay trace tables os room) r
   unfolding tried trials_causes
   trials_refused_iff =
       both_tell delay trace tables (λ es rs. tried_from delay es (tables_of rs) os room) (λ es rs. uneven_cause os es ∷ trials_short_cause delay os room es rs ∷ []) (λ es _. tried_tells es)

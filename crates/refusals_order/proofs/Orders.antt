@@ -3,7 +3,7 @@ use mathlib.Core.Path.{◌≡◌, refl, sym, ◌∙◌}
 use mathlib.Core.Bool.{Bool, true, false, not, true≢false}
 use mathlib.Core.Logic.{◌↔◌, inl, inr, ⊎_elim}
 use mathlib.Core.List.{List, [], ◌∷◌}
-use mathlib.Core.Option.{some}
+use Rattle.std.specs.Prelude.{Some, Err}
 use Prim.Native.Nat.{ℕ, zero, suc, ◌<◌}
 use native.Mathlib.Omega.{arith}
 use lib.Dec.{eqb}
@@ -49,7 +49,7 @@ module _ (delay : ℕ) (es : List Event) (clocks : InLineOrder delay es) (o : Li
     λ w. record { later = w.later; after = w.after; within = w.within; precedes = (before_direct delay es clocks _ _).1 w.chain },
   )
 
-  lowest_early_iff : (p : ℕ) → (first_early delay es o ≡ some p) ↔ Lowest (PutEarly delay es o) (length o) p
+  lowest_early_iff : (p : ℕ) → (first_early delay es o ≡ Some p) ↔ Lowest (PutEarly delay es o) (length o) p
   lowest_early_iff p = (
     λ e. let l = (early_iff delay es o p).0 e in
         let a = l.early.after in
@@ -69,5 +69,5 @@ module _ (delay : ℕ) (es : List Event) (clocks : InLineOrder delay es) (o : Li
       (λ _ e. found_tells (first_early delay es o) (Lowest (PutEarly delay es o) (length o)) lowest_early_iff Refusal.EventTooEarly)
 
 -- THE refusal of an order: the first of 21, 22 that applies
-pub order_refused_iff : (delay : ℕ) (es : List Event) → InLineOrder delay es → (o : List ℕ) (r : Refusal) → (check_order delay es o ≡ inl r) ↔ FirstOf (order_causes delay o es) r
+pub order_refused_iff : (delay : ℕ) (es : List Event) → InLineOrder delay es → (o : List ℕ) (r : Refusal) → (check_order delay es o ≡ Err r) ↔ FirstOf (order_causes delay o es) r
 order_refused_iff delay = order_tells delay

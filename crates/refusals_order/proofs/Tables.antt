@@ -2,9 +2,9 @@
 -- does (`tables_accepted_none`). By themselves: the lines (`row_refused_iff`) and the keys (`key_refused_iff`). Assumes nothing.
 use mathlib.Core.Path.{◌≡◌, refl, sym, ap, ◌∙◌}
 use mathlib.Core.Bool.{true, not}
-use mathlib.Core.Logic.{◌↔◌, inl, inr, ⊎_elim}
+use mathlib.Core.Logic.{◌↔◌, ⊎_elim}
 use mathlib.Core.List.{List, [], ◌∷◌, ◌++◌}
-use mathlib.Core.Option.{Option, none, some}
+use Rattle.std.specs.Prelude.{Option, None, Some, Ok, Err}
 use Prim.Native.Nat.{ℕ, ◌≤◌}
 use native.Mathlib.Omega.{arith}
 use lib.ListN.{length}
@@ -33,17 +33,17 @@ use Rattle.refusals_order.proofs.Causes.{Tells, handed_none, then_tells, none_te
 use Rattle.refusals_order.proofs.Texts.{limit_tells, bit_match}
 
 -- ---- a line: 14, 15
-malformed_iff : (l : List ℕ) → (read_row l ≡ none) ↔ RowMalformed l
+malformed_iff : (l : List ℕ) → (read_row l ≡ None) ↔ RowMalformed l
 malformed_iff l = (
   λ e x w. let p = (row_format l x).1 w in let z : ◌≡◌ {A = ℕ} 0 1 = cc in omega arith,
   λ h. go (read_row l) refl h,
 )
   where
-    go : (o : Option Row) → read_row l ≡ o → RowMalformed l → read_row l ≡ none
-    go none e h = e
-    go (some x) e h = absurd (h x ((row_format l x).0 e))
+    go : (o : Option Row) → read_row l ≡ o → RowMalformed l → read_row l ≡ None
+    go None e h = e
+    go (Some x) e h = absurd (h x ((row_format l x).0 e))
 
-bit_iff : (l : List ℕ) (x : Row) → read_row l ≡ some x → (not (clear_entry x.entry) ≡ true) ↔ RowBit l
+bit_iff : (l : List ℕ) (x : Row) → read_row l ≡ Some x → (not (clear_entry x.entry) ≡ true) ↔ RowBit l
 bit_iff l x e = (
   λ f. let w = (row_format l x).0 e in (x, w, (bit_match x.entry.key.pattern w.0.entry.key.pattern).0 (not-true _ f)),
   λ (y, w, d). let p = (row_format l y).1 w in let q : x ≡ y = cc in rw (q, (bit_match y.entry.key.pattern w.0.entry.key.pattern).1 d) refl,
@@ -53,15 +53,15 @@ row_tells : (k : ℕ) (l : List ℕ) → Tells (read_row_line k l) (row_causes k
 unfolding read_row_line
 row_tells k l =
     let bit : Cause = When (RowBit l) (Refusal.TablesAddressBit k) in
-    let after : Row → Checked Row = λ x. refuse_if (not (clear_entry x.entry)) (Refusal.TablesAddressBit k) ▹ λ _. inr x in
+    let after : Row → Checked Row = λ x. refuse_if (not (clear_entry x.entry)) (Refusal.TablesAddressBit k) ▹ λ _. Ok x in
     then_tells (refuse_none (read_row l) (Refusal.TablesMalformed k)) after (When (RowMalformed l) (Refusal.TablesMalformed k) ∷ []) (bit ∷ [])
     (none_tells (read_row l) (RowMalformed l) (malformed_iff l) (Refusal.TablesMalformed k))
-    (λ x e. then_tells (refuse_if (not (clear_entry x.entry)) (Refusal.TablesAddressBit k)) (λ _. inr x) (bit ∷ []) []
+    (λ x e. then_tells (refuse_if (not (clear_entry x.entry)) (Refusal.TablesAddressBit k)) (λ _. Ok x) (bit ∷ []) []
     (when_tells (not (clear_entry x.entry)) (RowBit l) (bit_iff l x (some_handed (read_row l) (Refusal.TablesMalformed k) e)) (Refusal.TablesAddressBit k))
     (λ _ f. never_tells x))
 
 -- ---- 16
-first_twice_iff : (s : List ℕ) (each : List Row) → ReadAs 0 (lines s) each → (k : ℕ) → (first_twice each ≡ some k) ↔ LowestOn s k
+first_twice_iff : (s : List ℕ) (each : List Row) → ReadAs 0 (lines s) each → (k : ℕ) → (first_twice each ≡ Some k) ↔ LowestOn s k
 first_twice_iff s each a k = (
   λ e. let l = (lowest_iff (Twice each) (stands_earlier each) (stands_iff each) (length each) k).0 e in
       ((twice_lines s each a k).0 l.here, λ j h w. l.none_lower j h ((twice_lines s each a j).1 w)),
@@ -79,19 +79,19 @@ tables_tell s =
     (limit_tells s Refusal.TablesTooLong Refusal.TablesUnended Refusal.TablesTooManyLines)
     (λ _ k. then_tells (read_each read_row_line 0 (lines s)) keys (line_by_line row_causes 0 (lines s)) (key_cause s ∷ [])
     (each_tells read_row_line row_causes row_tells 0 (lines s))
-    (λ each e. then_tells (refuse_at (first_twice each) Refusal.KeyTwice) (λ _. inr (in_order each)) (key_cause s ∷ []) []
+    (λ each e. then_tells (refuse_at (first_twice each) Refusal.KeyTwice) (λ _. Ok (in_order each)) (key_cause s ∷ []) []
     (found_tells (first_twice each) (LowestOn s) (first_twice_iff s each (read_as 0 (lines s) each e)) Refusal.KeyTwice)
     (λ _ f. never_tells (in_order each))))
   where
     keys : List Row → Checked (List Row)
-    keys each = refuse_at (first_twice each) Refusal.KeyTwice ▹ λ _. inr (in_order each)
+    keys each = refuse_at (first_twice each) Refusal.KeyTwice ▹ λ _. Ok (in_order each)
 
 -- THE refusal of a table text: the first of document 01's list, 11, 12, 13; on each line 14, 15; 16, that applies
-pub tables_refused_iff : (s : List ℕ) (r : Refusal) → (read_tables s ≡ inl r) ↔ FirstOf (tables_causes s) r
+pub tables_refused_iff : (s : List ℕ) (r : Refusal) → (read_tables s ≡ Err r) ↔ FirstOf (tables_causes s) r
 tables_refused_iff = tables_tell
 
 -- a table text is accepted exactly if none applies
-pub tables_accepted_none : (s : List ℕ) → ((rs : List Row) × (read_tables s ≡ inr rs)) ↔ NoneOf (tables_causes s)
+pub tables_accepted_none : (s : List ℕ) → ((rs : List Row) × (read_tables s ≡ Ok rs)) ↔ NoneOf (tables_causes s)
 tables_accepted_none s = handed_none (read_tables s) (tables_causes s) (tables_tell s)
 
 -- ---- the lines and the keys by themselves
@@ -102,7 +102,7 @@ row_number k l r f =
 
 module _ (s : List ℕ) (w : Within s) where
   abbrev keys_of : List Row → Checked (List Row)
-  keys_of each = refuse_at (first_twice each) Refusal.KeyTwice ▹ λ _. inr (in_order each)
+  keys_of each = refuse_at (first_twice each) Refusal.KeyTwice ▹ λ _. Ok (in_order each)
 
   lines_then : read_tables s ≡ (read_each read_row_line 0 (lines s) ▹ keys_of)
   unfolding read_tables
@@ -110,11 +110,11 @@ module _ (s : List ℕ) (w : Within s) where
 
   -- 14, 15: a text within the limits is refused by a line exactly if that is the lowest line that fails one of the two checks, and by the
   -- first of them that it fails
-  pub row_refused_iff : (r : Refusal) → ((read_tables s ≡ inl r) × (number_of r ≤ 15)) ↔ LowestLine row_causes (lines s) r
+  pub row_refused_iff : (r : Refusal) → ((read_tables s ≡ Err r) × (number_of r ≤ 15)) ↔ LowestLine row_causes (lines s) r
   row_refused_iff r = (
     λ (e, n). refused_by (read_each read_row_line 0 (lines s)) keys_of (sym lines_then ∙ e)
         (λ f. (lowest_line_iff row_causes (lines s) r).0 ((each_tells read_row_line row_causes row_tells 0 (lines s) r).0 f))
-        (λ each f g. refused_by (refuse_at (first_twice each) Refusal.KeyTwice) (λ _. inr (in_order each)) g
+        (λ each f g. refused_by (refuse_at (first_twice each) Refusal.KeyTwice) (λ _. Ok (in_order each)) g
         (λ h. let (k, p, q) = found_at (first_twice each) Refusal.KeyTwice h in absurd (omega (arith, ap number_of q)))
         (λ _ h u. not_refused u)),
     λ m. (
@@ -124,12 +124,12 @@ module _ (s : List ℕ) (w : Within s) where
   )
 
   -- 16: where no line is refused, line k is exactly if it is the lowest whose switch and key stand on an earlier one
-  pub key_refused_iff : (each : List Row) → RowLinesOf s each → (k : ℕ) → (read_tables s ≡ inl (Refusal.KeyTwice k)) ↔ LowestOn s k
+  pub key_refused_iff : (each : List Row) → RowLinesOf s each → (k : ℕ) → (read_tables s ≡ Err (Refusal.KeyTwice k)) ↔ LowestOn s k
   key_refused_iff each (p, i) k = (
-    λ e. refused_by (refuse_at (first_twice each) Refusal.KeyTwice) (λ _. inr (in_order each)) (sym then_keys ∙ e)
-        (λ h. let (j, f, q) = found_at (first_twice each) Refusal.KeyTwice h in let same : k ≡ j = cc in (first_twice_iff s each read k).0 (f ∙ ap some (sym same)))
+    λ e. refused_by (refuse_at (first_twice each) Refusal.KeyTwice) (λ _. Ok (in_order each)) (sym then_keys ∙ e)
+        (λ h. let (j, f, q) = found_at (first_twice each) Refusal.KeyTwice h in let same : k ≡ j = cc in (first_twice_iff s each read k).0 (f ∙ ap Some (sym same)))
         (λ _ h u. not_refused u),
-    λ l. then_keys ∙ ap (λ x. refuse_at x Refusal.KeyTwice ▹ λ _. inr (in_order each)) ((first_twice_iff s each read k).1 l),
+    λ l. then_keys ∙ ap (λ x. refuse_at x Refusal.KeyTwice ▹ λ _. Ok (in_order each)) ((first_twice_iff s each read k).1 l),
   )
     where
       read : ReadAs 0 (lines s) each

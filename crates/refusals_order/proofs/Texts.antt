@@ -2,6 +2,7 @@
 use mathlib.Core.Path.{◌≡◌, refl, sym, ◌∙◌, subst}
 use mathlib.Core.Bool.{Bool, true, false, not, cond, true≢false}
 use mathlib.Core.Logic.{◌↔◌, inl, inr, ⊎_elim}
+use Rattle.std.specs.Prelude.{None, Some}
 use mathlib.Core.List.{List, [], ◌∷◌}
 use Prim.Native.Nat.{ℕ, ◌-◌, ◌<◌}
 use native.Mathlib.Omega.{arith}
@@ -34,7 +35,7 @@ ended_iff s = (
 )
 
 by_limits : (x y z : Bool) (a b c : Refusal)
-    → (refuse_if x a ▹ λ _. refuse_if (not y) b ▹ λ _. refuse_if z c) ≡ refuse_limit (cond x Limit.TooLong (cond y (cond z Limit.TooManyLines Limit.Kept) Limit.Unended)) a b c
+    → (refuse_if x a ▹ λ _. refuse_if (not y) b ▹ λ _. refuse_if z c) ≡ refuse_limit (cond x (Some Limit.TooLong) (cond y (cond z (Some Limit.TooManyLines) None) (Some Limit.Unended))) a b c
 by_limits true y z a b c = refl
 by_limits false false z a b c = refl
 by_limits false true true a b c = refl

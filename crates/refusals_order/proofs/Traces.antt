@@ -6,7 +6,7 @@ use mathlib.Core.Path.{◌≡◌, refl, sym, ap, ◌∙◌, subst}
 use mathlib.Core.Bool.{Bool, true, false, not, cond}
 use mathlib.Core.Logic.{◌↔◌, inl, inr, ⊎_elim}
 use mathlib.Core.List.{List, [], ◌∷◌, ◌++◌}
-use mathlib.Core.Option.{Option, none, some}
+use Rattle.std.specs.Prelude.{Option, None, Some, Ok, Err}
 use Prim.Native.Nat.{ℕ, ◌≤◌, ◌<◌}
 use native.Mathlib.Omega.{arith}
 use lib.Dec.{eqb}
@@ -45,30 +45,30 @@ in_turn k x =
     refuse_if (not (eqb y.0 k)) (Refusal.EventMisnumbered k) ▹ λ _.
     refuse_if (not (clear_event y.1)) (Refusal.TraceAddressBit k) ▹ λ _.
     refuse_if (not (range_kept y.1)) (Refusal.RangeReversed k) ▹ λ _.
-    inr y.1
+    Ok y.1
 
 line_in_turn : (k : ℕ) (x : Option (ℕ × Event)) → in_turn k x ≡ on_line k x
-line_in_turn k none = refl
-line_in_turn k (some y) = go (eqb y.0 k) (clear_event y.1) (range_kept y.1)
+line_in_turn k None = refl
+line_in_turn k (Some y) = go (eqb y.0 k) (clear_event y.1) (range_kept y.1)
   where
-    go : (a b c : Bool) → (refuse_if (not a) (Refusal.EventMisnumbered k) ▹ λ _. refuse_if (not b) (Refusal.TraceAddressBit k) ▹ λ _. refuse_if (not c) (Refusal.RangeReversed k) ▹ λ _. inr y.1)
-        ≡ cond a (cond b (cond c (inr y.1) (inl (Refusal.RangeReversed k))) (inl (Refusal.TraceAddressBit k))) (inl (Refusal.EventMisnumbered k))
+    go : (a b c : Bool) → (refuse_if (not a) (Refusal.EventMisnumbered k) ▹ λ _. refuse_if (not b) (Refusal.TraceAddressBit k) ▹ λ _. refuse_if (not c) (Refusal.RangeReversed k) ▹ λ _. Ok y.1)
+        ≡ cond a (cond b (cond c (Ok y.1) (Err (Refusal.RangeReversed k))) (Err (Refusal.TraceAddressBit k))) (Err (Refusal.EventMisnumbered k))
     go true true true = refl
     go true true false = refl
     go true false c = refl
     go false b c = refl
 
-malformed_iff : (l : List ℕ) → (read_numbered_event l ≡ none) ↔ LineMalformed l
+malformed_iff : (l : List ℕ) → (read_numbered_event l ≡ None) ↔ LineMalformed l
 malformed_iff l = (
   λ e n v w. let p = (line_format l n v).1 w in let z : ◌≡◌ {A = ℕ} 0 1 = cc in omega arith,
   λ h. go (read_numbered_event l) refl h,
 )
   where
-    go : (x : Option (ℕ × Event)) → read_numbered_event l ≡ x → LineMalformed l → read_numbered_event l ≡ none
-    go none e h = e
-    go (some y) e h = absurd (h y.0 y.1 ((line_format l y.0 y.1).0 e))
+    go : (x : Option (ℕ × Event)) → read_numbered_event l ≡ x → LineMalformed l → read_numbered_event l ≡ None
+    go None e h = e
+    go (Some y) e h = absurd (h y.0 y.1 ((line_format l y.0 y.1).0 e))
 
-module _ (k : ℕ) (l : List ℕ) (y : ℕ × Event) (e : read_numbered_event l ≡ some y) where
+module _ (k : ℕ) (l : List ℕ) (y : ℕ × Event) (e : read_numbered_event l ≡ Some y) where
   own_line : IsLine l y.0 y.1
   own_line = (line_format l y.0 y.1).0 e
 
@@ -103,7 +103,7 @@ line_tells k l =
     (when_tells (not (eqb y.0 k)) (Misnumbered k l) (misnumbered_iff k l y (reads y e)) (Refusal.EventMisnumbered k))
     (λ _ f. then_tells (refuse_if (not (clear_event y.1)) (Refusal.TraceAddressBit k)) (after6 y) (c6 ∷ []) (c54 ∷ [])
     (when_tells (not (clear_event y.1)) (LineBit l) (bit_iff k l y (reads y e)) (Refusal.TraceAddressBit k))
-    (λ _ g. then_tells (refuse_if (not (range_kept y.1)) (Refusal.RangeReversed k)) (λ _. inr y.1) (c54 ∷ []) []
+    (λ _ g. then_tells (refuse_if (not (range_kept y.1)) (Refusal.RangeReversed k)) (λ _. Ok y.1) (c54 ∷ []) []
     (when_tells (not (range_kept y.1)) (LineReversed l) (reversed_iff k l y (reads y e)) (Refusal.RangeReversed k))
     (λ _ h. never_tells y.1)))))
   where
@@ -120,7 +120,7 @@ line_tells k l =
     x4 = refuse_none (read_numbered_event l) (Refusal.TraceMalformed k)
 
     after6 : ℕ × Event → Unit {0} → Checked Event
-    after6 y _ = refuse_if (not (range_kept y.1)) (Refusal.RangeReversed k) ▹ λ _. inr y.1
+    after6 y _ = refuse_if (not (range_kept y.1)) (Refusal.RangeReversed k) ▹ λ _. Ok y.1
 
     after5 : ℕ × Event → Unit {0} → Checked Event
     after5 y _ = refuse_if (not (clear_event y.1)) (Refusal.TraceAddressBit k) ▹ after6 y
@@ -128,13 +128,13 @@ line_tells k l =
     after4 : ℕ × Event → Checked Event
     after4 y = refuse_if (not (eqb y.0 k)) (Refusal.EventMisnumbered k) ▹ after5 y
 
-    reads : (y : ℕ × Event) → x4 ≡ inr y → read_numbered_event l ≡ some y
+    reads : (y : ℕ × Event) → x4 ≡ Ok y → read_numbered_event l ≡ Some y
     reads y e = some_handed (read_numbered_event l) (Refusal.TraceMalformed k) e
 
 -- ---- the tokens and the clocks: 7, 8, 55
 module _ (delay : ℕ) (es : List Event) where
   abbrev late : Checked (List Event)
-  late = refuse_at (lowest (backward delay es) (length es)) Refusal.TimeBackward ▹ λ _. inr es
+  late = refuse_at (lowest (backward delay es) (length es)) Refusal.TimeBackward ▹ λ _. Ok es
 
   abbrev early : Checked (List Event)
   early = refuse_at (lowest (taken_early es) (length es)) Refusal.TokenTooEarly ▹ λ _. late
@@ -151,7 +151,7 @@ module _ (delay : ℕ) (es : List Event) where
       (lowest_tells (TwiceAt es) (twice es) (twice_iff es) (length es) Refusal.TokenTwice)
       (λ _ e. then_tells (refuse_at (lowest (taken_early es) (length es)) Refusal.TokenTooEarly) (λ _. late) (early_cause es ∷ []) (backward_cause delay es ∷ [])
       (lowest_tells (TakenEarlyAt es) (taken_early es) (taken_early_iff es) (length es) Refusal.TokenTooEarly)
-      (λ _ f. then_tells (refuse_at (lowest (backward delay es) (length es)) Refusal.TimeBackward) (λ _. inr es) (backward_cause delay es ∷ []) []
+      (λ _ f. then_tells (refuse_at (lowest (backward delay es) (length es)) Refusal.TimeBackward) (λ _. Ok es) (backward_cause delay es ∷ []) []
       (lowest_tells (BackwardAt delay es) (backward delay es) (backward_iff delay es) (length es) Refusal.TimeBackward)
       (λ _ g. never_tells es)))
 
@@ -170,21 +170,21 @@ trace_tells delay s =
     (λ es e. tells_same (checked delay es) (check_causes delay es) (checks_tell delay es) (of_lines delay s)
     (of_said (LinesOf s) es (said es e) (only es e) twice_cause, (of_said (LinesOf s) es (said es e) (only es e) early_cause, (of_said (LinesOf s) es (said es e) (only es e) (backward_cause delay), tt)))))
   where
-    said : (es : List Event) → read_each read_event 0 (lines s) ≡ inr es → LinesOf s es
+    said : (es : List Event) → read_each read_event 0 (lines s) ≡ Ok es → LinesOf s es
     said es e = let (p, w, n) = events_read (lines s) es e in (p, w)
 
-    only : (es : List Event) → read_each read_event 0 (lines s) ≡ inr es → (fs : List Event) → LinesOf s fs → fs ≡ es
+    only : (es : List Event) → read_each read_event 0 (lines s) ≡ Ok es → (fs : List Event) → LinesOf s fs → fs ≡ es
     only es e fs (p, w) =
         let (q, v, n) = events_read (lines s) es e in
         let m : length fs ≡ length es = sym (lines_length 0 fs) ∙ ap length (sym p ∙ q) ∙ lines_length 0 es in
         same_value (sym (lines_read fs 0 w (omega arith)) ∙ ap (read_each read_event 0) (sym p) ∙ e)
 
 -- THE refusal of a trace: the first of document 01's list, 1, 2, 3; on each line 4, 5, 6, 54; 7; 8; 55, that applies
-pub trace_refused_iff : (delay : ℕ) (s : List ℕ) (r : Refusal) → (read_trace delay s ≡ inl r) ↔ FirstOf (trace_causes delay s) r
+pub trace_refused_iff : (delay : ℕ) (s : List ℕ) (r : Refusal) → (read_trace delay s ≡ Err r) ↔ FirstOf (trace_causes delay s) r
 trace_refused_iff delay = trace_tells delay
 
 -- a trace is accepted exactly if none applies
-pub trace_accepted_none : (delay : ℕ) (s : List ℕ) → ((es : List Event) × (read_trace delay s ≡ inr es)) ↔ NoneOf (trace_causes delay s)
+pub trace_accepted_none : (delay : ℕ) (s : List ℕ) → ((es : List Event) × (read_trace delay s ≡ Ok es)) ↔ NoneOf (trace_causes delay s)
 trace_accepted_none delay s = handed_none (read_trace delay s) (trace_causes delay s) (trace_tells delay s)
 
 -- ---- the lines, the tokens and the clocks by themselves
@@ -193,9 +193,9 @@ none_at : (P : ℕ → Type 0) (p : ℕ → Bool) → ((i : ℕ) → (p i ≡ tr
     → (j : ℕ) → j < n → P j → ⊥
 none_at P p iff n refusal h = lowest_none P p iff n (go (lowest p n) refl)
   where
-    go : (x : Option ℕ) → lowest p n ≡ x → lowest p n ≡ none
-    go none e = e
-    go (some k) e = absurd (h (refusal k) (k, (lowest_iff P p iff n k).0 e, refl))
+    go : (x : Option ℕ) → lowest p n ≡ x → lowest p n ≡ None
+    go None e = e
+    go (Some k) e = absurd (h (refusal k) (k, (lowest_iff P p iff n k).0 e, refl))
 
 -- the number of a line's refusal is 4, 5, 6 or 54
 line_number : (k : ℕ) (l : List ℕ) (r : Refusal) → FirstOf (line_causes k l) r → ByLine r
@@ -219,7 +219,7 @@ module _ (delay : ℕ) (s : List ℕ) (w : Within s) where
 
   -- 4, 5, 6, 54: a text within the limits is refused by a line exactly if that is the lowest line that fails one of the four checks, and
   -- by the first of them that it fails
-  pub line_refused_iff : (r : Refusal) → ((read_trace delay s ≡ inl r) × ByLine r) ↔ LowestLine line_causes (lines s) r
+  pub line_refused_iff : (r : Refusal) → ((read_trace delay s ≡ Err r) × ByLine r) ↔ LowestLine line_causes (lines s) r
   line_refused_iff r = (
     λ (e, n). refused_by (read_each read_event 0 (lines s)) (checked delay) (sym lines_then ∙ e)
         (λ f. (lowest_line_iff line_causes (lines s) r).0 ((each_tells read_event line_causes line_tells 0 (lines s) r).0 f))
@@ -237,7 +237,7 @@ module _ (delay : ℕ) (s : List ℕ) (w : Within s) where
         lines_then ∙ ap (λ x. x ▹ checked delay) (ap (read_each read_event 0) l.0 ∙ lines_read es 0 l.1 (omega arith))
 
     -- 7: where no line is refused, line j is exactly if it is the lowest with a token twice
-    pub twice_refused_iff : (j : ℕ) → (read_trace delay s ≡ inl (Refusal.TokenTwice j)) ↔ Lowest (TwiceAt es) (length es) j
+    pub twice_refused_iff : (j : ℕ) → (read_trace delay s ≡ Err (Refusal.TokenTwice j)) ↔ Lowest (TwiceAt es) (length es) j
     twice_refused_iff j = (
       λ e. ⊎_elim
           (λ (k, m, q). let h : k ≡ j = cc in rw h at m)
@@ -247,7 +247,7 @@ module _ (delay : ℕ) (s : List ℕ) (w : Within s) where
     )
 
     -- 8: and where no token stands twice, line i is exactly if it is the lowest that takes one in too early
-    pub early_refused_iff : (i : ℕ) → (read_trace delay s ≡ inl (Refusal.TokenTooEarly i)) ↔ (((j : ℕ) → j < length es → TwiceAt es j → ⊥) × Lowest (TakenEarlyAt es) (length es) i)
+    pub early_refused_iff : (i : ℕ) → (read_trace delay s ≡ Err (Refusal.TokenTooEarly i)) ↔ (((j : ℕ) → j < length es → TwiceAt es j → ⊥) × Lowest (TakenEarlyAt es) (length es) i)
     early_refused_iff i = (
       λ e. ⊎_elim
           (λ (k, m, q). absurd (omega (arith, ap number_of q)))
@@ -258,7 +258,7 @@ module _ (delay : ℕ) (s : List ℕ) (w : Within s) where
     )
 
     -- 55: and where none is taken in too early either, line i is exactly if it is the lowest before which the time rule puts a later one
-    pub backward_refused_iff : (i : ℕ) → (read_trace delay s ≡ inl (Refusal.TimeBackward i))
+    pub backward_refused_iff : (i : ℕ) → (read_trace delay s ≡ Err (Refusal.TimeBackward i))
         ↔ (((j : ℕ) → j < length es → TwiceAt es j → ⊥) × ((j : ℕ) → j < length es → TakenEarlyAt es j → ⊥) × Lowest (BackwardAt delay es) (length es) i)
     backward_refused_iff i = (
       λ e. ⊎_elim

@@ -1,7 +1,6 @@
 -- Document 01, "Refusal table", in words: when a refusal applies, and which of those that apply is told.
-use Rattle.std.specs.Prelude.{List, [], ◌∷◌, ◌++◌, ◌⊎◌, ◌≡◌, ℕ, ◌+◌, ◌<◌}
-use Rattle.std.proofs.Math.Option.{some}
-use Rattle.std.proofs.Math.ListN.{get_elem?}
+use Rattle.std.specs.Prelude.{List, [], ◌∷◌, ◌++◌, ◌⊎◌, ◌≡◌, ℕ, ◌+◌, ◌<◌, Some}
+use Rattle.std.specs.List.{slice_get}
 use Rattle.basics.specs.Searches.{Lowest}
 use Rattle.refusals_order.specs.Types.{Refusal}
 
@@ -41,6 +40,6 @@ line_by_line causes k (l ∷ ls) = causes k l ++ line_by_line causes (k + 1) ls
 pub record LowestLine (causes : ℕ → List ℕ → List Cause) (ls : List (List ℕ)) (r : Refusal) : Type 0 where
   pub line : ℕ
   pub text : List ℕ
-  pub there : get_elem? ls line ≡ some text
+  pub there : slice_get ls line ≡ Some text
   pub first : FirstOf (causes line text) r
-  pub none_lower : (j : ℕ) (m : List ℕ) → j < line → get_elem? ls j ≡ some m → NoneOf (causes j m)
+  pub none_lower : (j : ℕ) (m : List ℕ) → j < line → slice_get ls j ≡ Some m → NoneOf (causes j m)

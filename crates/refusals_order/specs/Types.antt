@@ -6,10 +6,4 @@ pub use Rattle.flow_table.specs.declared.operation.Operation.{Operation}
 pub use Rattle.flow_table.specs.declared.carried.Carried.{Carried}
 pub use Rattle.trace_events.specs.declared.event.Event.{Event}
 pub use Rattle.rows.specs.declared.row.Row.{Row}
-pub use Rattle.call_answers.specs.declared.list.ListAnswer.{ListAnswer}
-pub use Rattle.call_answers.specs.declared.normal.NormalAnswer.{NormalAnswer}
-pub use Rattle.call_answers.specs.declared.page.PageAnswer.{PageAnswer}
-pub use Rattle.call_answers.specs.declared.replay.ReplayAnswer.{ReplayAnswer}
 pub use Rattle.call_answers.specs.declared.share.Share.{Share}
-pub use Rattle.call_answers.specs.declared.share.ShareAnswer.{ShareAnswer}
-pub use Rattle.call_answers.specs.declared.trials.TrialsAnswer.{TrialsAnswer}

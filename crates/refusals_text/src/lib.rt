@@ -46,10 +46,8 @@ pub fn refused<'a>(out: &mut [u8], trace: &'a [u8], tables: &'a [u8], refusal: R
 {
     let n = put_refusal(out, refusal);
     let returned = refusal.returned();
-    let source = returned.source;
-    match source {
+    match returned.source {
         Source::Neither => n,
-        Source::Trace => put_line(out, n, refused_line(trace, tables, refusal)),
-        Source::Tables => put_line(out, n, refused_line(trace, tables, refusal)),
+        Source::Trace | Source::Tables => put_line(out, n, refused_line(trace, tables, refusal)),
     }
 }

@@ -1,9 +1,9 @@
 -- Demand 3, one theorem about an accepted trace (`demand_3`), and what keeps it from being empty: the orders that it speaks of are
 -- accepted, the recorded order is one of them, and buffers that hold the texts are long enough. Of every accepted order:
 -- `replay_follows`. Assumes nothing.
+use Rattle.std.specs.Prelude.{Ok}
 use mathlib.Core.Path.{◌≡◌, sym, ◌∙◌, subst}
 use mathlib.Core.List.{List}
-use mathlib.Core.Logic.{inr}
 use Prim.Native.Nat.{ℕ, ◌≤◌}
 use lib.ListN.{length}
 use Rattle.order_meaning.specs.Tables.{end_tables}
@@ -27,29 +27,29 @@ use Rattle.replay_agreement.proofs.RecordedOrder.{recorded_allowed}
 use Rattle.replay_agreement.proofs.SameTexts.{end_tables_lem, end_answers, same_texts, hold_same_rows}
 use Rattle.replay_agreement.proofs.Buffers.{long_enough, enough, writes}
 
-module _ (delay : ℕ) (s : List ℕ) (es : List Event) (trace : read_trace delay s ≡ inr es) where
+module _ (delay : ℕ) (s : List ℕ) (es : List Event) (trace : read_trace delay s ≡ Ok es) where
   clocks : InLineOrder delay es
   clocks = accepted_in_line_order delay s es trace
 
   -- an allowed order is never refused by 21 or 22, nor is the recorded order, which is allowed
-  pub allowed_accepted : (o : List ℕ) → Allowed delay es o → check_order delay es o ≡ inr tt
+  pub allowed_accepted : (o : List ℕ) → Allowed delay es o → check_order delay es o ≡ Ok tt
   allowed_accepted o a = (order_accepted_iff delay es clocks o).1 (a.order, a.keeps)
 
   pub recorded_is_allowed : Allowed delay es (recorded es)
   recorded_is_allowed = recorded_allowed delay es clocks
 
-  pub recorded_is_accepted : check_order delay es (recorded es) ≡ inr tt
+  pub recorded_is_accepted : check_order delay es (recorded es) ≡ Ok tt
   recorded_is_accepted = recorded_accepted delay es clocks
 
-  module _ (t : List ℕ) (rs : List Row) (tables : read_tables t ≡ inr rs) where
+  module _ (t : List ℕ) (rs : List Row) (tables : read_tables t ≡ Ok rs) where
     -- buffers are long enough where they hold the texts
-    pub room_enough : (o : List ℕ) → check_order delay es o ≡ inr tt → (a b : ℕ)
+    pub room_enough : (o : List ℕ) → check_order delay es o ≡ Ok tt → (a b : ℕ)
         → length (tables_text (end_tables (operation_at es) o (tables_of rs))) ≤ a → length (answer_lines es o (tables_of rs)) ≤ b → LongEnough delay s t o a b
     room_enough o e a b = enough delay s t o (texts_of es o (tables_of rs)) a b (only_rooms delay s t o es rs trace tables e a b)
 
     -- replay follows document 01's rules: in every accepted order, given long enough buffers, it returns the lengths of the normal text
     -- of the end tables and of the answers' lines of that order, from the tables of the table text, and writes these two texts
-    pub replay_follows : (o : List ℕ) → check_order delay es o ≡ inr tt → (old old' : List ℕ) → LongEnough delay s t o (length old) (length old')
+    pub replay_follows : (o : List ℕ) → check_order delay es o ≡ Ok tt → (old old' : List ℕ) → LongEnough delay s t o (length old) (length old')
         → Writes delay (tables_text (end_tables (operation_at es) o (tables_of rs))) (answer_lines es o (tables_of rs)) s t o old old'
     replay_follows o e old old' long =
         let x = texts_of es o (tables_of rs) in

@@ -2,8 +2,7 @@
 -- the answers (`given_short`). Assumes nothing.
 use mathlib.Core.Path.{◌≡◌, subst}
 use mathlib.Core.Bool.{Bool, true, false, cond}
-use mathlib.Core.Logic.{inr}
-use mathlib.Core.Option.{Option, none, some}
+use Rattle.std.specs.Prelude.{Option, None, Some, Ok}
 use mathlib.Core.List.Memᴰ
 use mathlib.Core.List.{List, [], ◌∷◌, Memᴰ}
 use Prim.Native.Nat.{ℕ, suc, ◌≤◌}
@@ -39,10 +38,10 @@ table_length w (x ∷ xs) = go (eqb w x.switch) (table_length w xs)
     go false ih = omega arith
 
 or_silent : (x : Option Answer) → Short x → AnswerShort (given_or Answer.Silent x)
-or_silent none h = tt
-or_silent (some a) h = h
+or_silent None h = tt
+or_silent (Some a) h = h
 
-module _ (delay : ℕ) (s t : List ℕ) (es : List Event) (rs : List Row) (trace : read_trace delay s ≡ inr es) (tables : read_tables t ≡ inr rs) (o : List ℕ) where
+module _ (delay : ℕ) (s t : List ℕ) (es : List Event) (rs : List Row) (trace : read_trace delay s ≡ Ok es) (tables : read_tables t ≡ Ok rs) (o : List ℕ) where
   start_in_range : (w : ℕ) → TableInRange (table_of w rs)
   start_in_range w = table_in_range w rs (λ r m. (accepted_range t rs tables r m).entry)
 
@@ -58,7 +57,7 @@ module _ (delay : ℕ) (s t : List ℕ) (es : List Event) (rs : List Row) (trace
             r.entry (subst (Memᴰ r.entry) (run_tables es o rs (accepted_sorted t rs tables) r.switch) here);
       }
 
-  pub given_short : check_order delay es o ≡ inr tt → (i : ℕ) → AnswerShort (given_or Answer.Silent (answers (operation_at es) o (tables_of rs) i))
+  pub given_short : check_order delay es o ≡ Ok tt → (i : ℕ) → AnswerShort (given_or Answer.Silent (answers (operation_at es) o (tables_of rs) i))
   given_short order i =
       let few = ((trace_accepted_iff delay s es).0 trace).few in
       let size = (accepted_complete delay es o order).size in

@@ -2,7 +2,7 @@
 -- count has at most three digits. Assumes nothing.
 use mathlib.Core.Path.{refl}
 use mathlib.Core.Bool.{Bool, true, false, not, cond}
-use mathlib.Core.Option.{Option, none, some}
+use Rattle.std.specs.Prelude.{Option, None, Some}
 use mathlib.Core.Logic.{⊎_elim}
 use mathlib.Core.List.Memᴰ
 use mathlib.Core.List.{List, [], ◌∷◌, Memᴰ}
@@ -59,8 +59,8 @@ range_after Effect.Idle t h r = r
 
 -- ---- its answer, if there is one
 abbrev pub Short : Option Answer → Type 0
-Short none = Unit {0}
-Short (some a) = AnswerShort a
+Short None = Unit {0}
+Short (Some a) = AnswerShort a
 
 highest_range : (t : Table) → TableInRange t → highest t < 65536
 highest_range [] r = omega arith
@@ -108,7 +108,7 @@ module _ (ev : ℕ → Operation) (range : (i : ℕ) → EffectInRange (effect_o
   answers_short (j ∷ o) ts h l i =
       go (eqb i j) (answers_short o (step_of (ev j) ts) (step_in_range j ts h) (λ w. omega (arith, l w, step_length j ts w)) i)
     where
-      go : (b : Bool) → Short (answers ev o (step_of (ev j) ts) i) → Short (cond b (some (answer_of (ev j) ts)) (answers ev o (step_of (ev j) ts) i))
+      go : (b : Bool) → Short (answers ev o (step_of (ev j) ts) i) → Short (cond b (Some (answer_of (ev j) ts)) (answers ev o (step_of (ev j) ts) i))
       go true ih = answer_short (effect_of (ev j)) (ts (switch_of (ev j))) (omega (arith, l (switch_of (ev j)))) (h (switch_of (ev j)))
       go false ih = ih
 

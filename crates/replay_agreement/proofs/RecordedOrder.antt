@@ -1,8 +1,8 @@
 -- The recorded order is one of the orders that demand 3 speaks of (`recorded_allowed`), and its bytes are 0, 1, 2 and so on
 -- (`recorded_bytes`). Assumes nothing.
+use Rattle.std.specs.Prelude.{Ok}
 use mathlib.Core.Path.{◌≡◌, sym, ap, ◌∙◌}
 use mathlib.Core.List.{List}
-use mathlib.Core.Logic.{inr}
 use Prim.Native.Nat.{ℕ, ◌<◌}
 use native.Mathlib.Omega.{arith}
 use lib.ListN.{length, get_or, take}
@@ -27,7 +27,7 @@ recorded_allowed delay es clocks = record {
 
 -- ---- the recorded order as bytes
 -- of the bytes 0, 1, 2 and so on as many as an accepted trace's text has lines are its recorded order
-pub recorded_bytes : (delay : ℕ) (s : List ℕ) (es : List Event) → read_trace delay s ≡ inr es → (r : List ℕ) → length r ≡ 256 → ((i : ℕ) → i < 256 → get_or r i 0 ≡ i)
+pub recorded_bytes : (delay : ℕ) (s : List ℕ) (es : List Event) → read_trace delay s ≡ Ok es → (r : List ℕ) → length r ≡ 256 → ((i : ℕ) → i < 256 → get_or r i 0 ≡ i)
     → take (newlines s) r ≡ recorded es
 recorded_bytes delay s es e r size each =
     let t = (trace_accepted_iff delay s es).0 e in

@@ -1,9 +1,9 @@
 -- Buffers of these lengths are never too short: 29,440 bytes for a normal text (`normal_room`), 58,880 for end tables (`tables_room`),
 -- 7,168 for answers (`answers_room`), 65,280 for a list (`list_room`). A line of a table has at most 115 bytes, an answer line 28,
 -- and there are such lines (`row_longest`, `answer_longest`). Assumes nothing.
+use Rattle.std.specs.Prelude.{Ok}
 use mathlib.Core.Path.{◌≡◌, refl, ap}
 use mathlib.Core.Bool.{Bool, true, false, cond}
-use mathlib.Core.Logic.{inr}
 use mathlib.Core.List.{List, [], ◌++◌}
 use Prim.Native.Nat.{ℕ, zero, suc, ◌*◌, ◌≤◌, ◌<◌}
 use native.Mathlib.Omega.{arith}
@@ -60,7 +60,7 @@ unfolding print_answer print_item print_action print_number decimal
 answer_longest = refl
 
 -- the normal text of an accepted table text
-pub normal_room : (t : List ℕ) (rs : List Row) → read_tables t ≡ inr rs → length (normal_text rs) ≤ 29440
+pub normal_room : (t : List ℕ) (rs : List Row) → read_tables t ≡ Ok rs → length (normal_text rs) ≤ 29440
 normal_room t rs e = omega (arith, normal_most rs (accepted_range t rs e), accepted_length t rs e)
 
 -- ---- answer lines
@@ -89,7 +89,7 @@ text_most f h zero l = omega arith
 text_most f h (suc n) l = simp length-append (omega (arith, text_most f h n (omega arith), answer_most n (f n) (omega arith) (h n)))
 
 -- ---- of an accepted trace
-module _ (delay : ℕ) (s : List ℕ) (es : List Event) (trace : read_trace delay s ≡ inr es) where
+module _ (delay : ℕ) (s : List ℕ) (es : List Event) (trace : read_trace delay s ≡ Ok es) where
   few : length es ≤ 256
   few = ((trace_accepted_iff delay s es).0 trace).few
 
@@ -98,7 +98,7 @@ module _ (delay : ℕ) (s : List ℕ) (es : List Event) (trace : read_trace dela
   list_room = omega (arith, bytes_length (list_of delay es), count_most delay listed es few)
 
   -- and the replay of an accepted order from an accepted table text
-  module _ (t : List ℕ) (rs : List Row) (tables : read_tables t ≡ inr rs) (o : List ℕ) (order : check_order delay es o ≡ inr tt) where
+  module _ (t : List ℕ) (rs : List Row) (tables : read_tables t ≡ Ok rs) (o : List ℕ) (order : check_order delay es o ≡ Ok tt) where
     -- its end tables
     pub tables_room : length (tables_text (end_tables (operation_at es) o (tables_of rs))) ≤ 58880
     tables_room =

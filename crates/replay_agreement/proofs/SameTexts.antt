@@ -1,9 +1,9 @@
 -- Allowed orders leave the same tables and answers as the recorded order, so that both texts of a replay are the same, and table texts
 -- that hold the same entries have the same rows. Assumes nothing.
+use Rattle.std.specs.Prelude.{Ok}
 use mathlib.Core.Path.{◌≡◌, fun_ext}
 use mathlib.Core.Bool.{true}
 use mathlib.Core.List.{List}
-use mathlib.Core.Logic.{inr}
 use Prim.Native.Nat.{ℕ, ◌<◌}
 use lib.ListN.{length}
 use Rattle.order_meaning.specs.Orders.{stands}
@@ -54,6 +54,6 @@ module _ (delay : ℕ) (es : List Event) (clocks : InLineOrder delay es) (o : Li
   same_texts start g = same_told es o (recorded es) start (end_tables_lem start g) (end_answers start g)
 
 -- accepted texts that hold the same entries on the same switches have the same rows
-pub hold_same_rows : (t u : List ℕ) (rs qs : List Row) → read_tables t ≡ inr rs → read_tables u ≡ inr qs → HoldSame t u → rs ≡ qs
+pub hold_same_rows : (t u : List ℕ) (rs qs : List Row) → read_tables t ≡ Ok rs → read_tables u ≡ Ok qs → HoldSame t u → rs ≡ qs
 hold_same_rows t u rs qs p q same =
     normal_injective rs qs (accepted_range t rs p) (accepted_range u qs q) ((same_normal t u rs qs p q).1 same)

@@ -2,8 +2,8 @@
 -- answers are (`texts_tell`). Assumes nothing.
 use mathlib.Core.Path.{◌≡◌, refl, sym, ap, ◌∙◌}
 use mathlib.Core.Bool.{Bool, true, false, not, cond, ◌||◌}
-use mathlib.Core.Logic.{◌↔◌, inr}
-use mathlib.Core.Option.{none, some}
+use mathlib.Core.Logic.{◌↔◌}
+use Rattle.std.specs.Prelude.{None, Some, Ok}
 use mathlib.Core.List.{List, [], ◌∷◌}
 use Prim.Native.Nat.{ℕ}
 use native.Mathlib.Decide.{dec_lt}
@@ -34,17 +34,17 @@ use Rattle.replay_agreement.proofs.SameTexts.{same_told}
 use Rattle.replay_agreement.proofs.EndInRange.{end_rows_in_range, given_short}
 
 -- an event has an answer exactly if it stands in the order
-answered : (ev : ℕ → Operation) (o : List ℕ) (ts : Tables) (i : ℕ) → answers ev o ts i ≡ cond (has i o) (some (given_or Answer.Silent (answers ev o ts i))) none
+answered : (ev : ℕ → Operation) (o : List ℕ) (ts : Tables) (i : ℕ) → answers ev o ts i ≡ cond (has i o) (Some (given_or Answer.Silent (answers ev o ts i))) None
 answered ev [] ts i = refl
 answered ev (j ∷ o) ts i = go (eqb i j) (answered ev o (step_of (ev j) ts) i)
   where
-    go : (b : Bool) → answers ev o (step_of (ev j) ts) i ≡ cond (has i o) (some (given_or Answer.Silent (answers ev o (step_of (ev j) ts) i))) none
-        → cond b (some (answer_of (ev j) ts)) (answers ev o (step_of (ev j) ts) i)
-        ≡ cond (b || has i o) (some (given_or Answer.Silent (cond b (some (answer_of (ev j) ts)) (answers ev o (step_of (ev j) ts) i)))) none
+    go : (b : Bool) → answers ev o (step_of (ev j) ts) i ≡ cond (has i o) (Some (given_or Answer.Silent (answers ev o (step_of (ev j) ts) i))) None
+        → cond b (Some (answer_of (ev j) ts)) (answers ev o (step_of (ev j) ts) i)
+        ≡ cond (b || has i o) (Some (given_or Answer.Silent (cond b (Some (answer_of (ev j) ts)) (answers ev o (step_of (ev j) ts) i)))) None
     go true ih = refl
     go false ih = ih
 
-module _ (delay : ℕ) (s t : List ℕ) (es : List Event) (rs : List Row) (trace : read_trace delay s ≡ inr es) (tables : read_tables t ≡ inr rs) (o q : List ℕ) (order : check_order delay es o ≡ inr tt) (other : check_order delay es q ≡ inr tt) where
+module _ (delay : ℕ) (s t : List ℕ) (es : List Event) (rs : List Row) (trace : read_trace delay s ≡ Ok es) (tables : read_tables t ≡ Ok rs) (o q : List ℕ) (order : check_order delay es o ≡ Ok tt) (other : check_order delay es q ≡ Ok tt) where
   sorted : SortedRows rs
   sorted = accepted_sorted t rs tables
 
@@ -76,9 +76,9 @@ module _ (delay : ℕ) (s t : List ℕ) (es : List Event) (rs : List Row) (trace
   unfolding answer_lines
   answers_tell e i = answered (operation_at es) o (tables_of rs) i ∙ same ∙ sym (answered (operation_at es) q (tables_of rs) i)
     where
-      same : cond (has i o) (some (given o i)) none ≡ cond (has i q) (some (given q i)) none
+      same : cond (has i o) (Some (given o i)) None ≡ cond (has i q) (Some (given q i)) None
       same = elim (dec_lt i (length es)) [
-        | yes l ↦ rw (first.full i l, second.full i l) (ap some (text_tells (given o) (given q) (λ k. silent first k ∙ sym (silent second k))
+        | yes l ↦ rw (first.full i l, second.full i l) (ap Some (text_tells (given o) (given q) (λ k. silent first k ∙ sym (silent second k))
             (given_short delay s t es rs trace tables o order) (given_short delay s t es rs trace tables q other) (length es) e i l))
         | no l ↦ rw (absent first i l, absent second i l) refl
       ]

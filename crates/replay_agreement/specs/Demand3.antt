@@ -1,7 +1,6 @@
 -- Demand 3, whole, of an accepted trace: a single claim about whole orders. `Allowed`, the orders that it speaks of, is in Allowed.antt;
 -- `LongEnough` and `Writes`, of the buffers, in Buffers.antt.
-use Rattle.std.specs.Prelude.{◌≡◌, List, ℕ, length}
-use Rattle.std.proofs.Common.{inr}
+use Rattle.std.specs.Prelude.{◌≡◌, List, ℕ, length, Ok}
 use Rattle.flow_table.specs.Switches.{Tables, InOrder}
 use Rattle.order_meaning.specs.Tables.{end_tables, answers}
 use Rattle.rows.specs.Rows.{tables_of}
@@ -22,7 +21,7 @@ pub record Demand3 (delay : ℕ) (s : List ℕ) (es : List Event) : Type 0 where
       → (i : ℕ) → answers (operation_at es) o start i ≡ answers (operation_at es) (recorded es) start i
   -- any two replays in such orders, from accepted table texts that hold the same entries on the same switches, given long enough
   -- buffers, return equal lengths and write the same two texts: those of the recorded order from the tables of the table text
-  pub bytes : (t u : List ℕ) (rs qs : List Row) → read_tables t ≡ inr rs → read_tables u ≡ inr qs → HoldSame t u
+  pub bytes : (t u : List ℕ) (rs qs : List Row) → read_tables t ≡ Ok rs → read_tables u ≡ Ok qs → HoldSame t u
       → (o p : List ℕ) → Allowed delay es o → Allowed delay es p
       → (old old' new new' : List ℕ) → LongEnough delay s t o (length old) (length old') → LongEnough delay s u p (length new) (length new')
       → let ends = tables_text (end_tables (operation_at es) (recorded es) (tables_of rs)) in

@@ -4,4 +4,3 @@ pub use Rattle.rows.specs.Types.{Action, Key, Entry, Ordering, Operation, Answer
 pub use Rattle.flow_table.specs.declared.effect.Effect.{Effect}
 pub use Rattle.trace_events.specs.declared.event.Event.{Event}
 pub use Rattle.rows.specs.declared.row.Row.{Row}
-pub use Rattle.call_answers.specs.declared.replay.ReplayAnswer.{ReplayAnswer}

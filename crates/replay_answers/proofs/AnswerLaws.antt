@@ -2,19 +2,20 @@
 use mathlib.Core.Path.{◌≡◌, refl, sym, ap, ◌∙◌}
 use mathlib.Core.Bool.{Bool, true, false, cond}
 use mathlib.Core.List.{List, [], ◌∷◌, ◌++◌, append-nil}
-use Prim.Native.Nat.{ℕ, zero, suc, ◌+◌, ◌*◌, ◌-◌, ◌≤◌}
+use Prim.Native.Nat.{ℕ, zero, suc, ◌+◌, ◌*◌, ◌-◌, ◌≤◌, ◌<◌}
 use native.Mathlib.Decide.{ℕ_discrete}
 use native.Mathlib.Nat.{add-zero, add-suc, suc-add, zero-add}
 use native.Mathlib.Numerals.{add-one}
 use native.Mathlib.Omega.{arith}
-use lib.ListN.{length, set, replicate, take, drop, length-append, length-drop, take-append-drop, drop_of_length-le}
-use lib.Seq.{sets, take_all, length-take-le}
+use lib.ListN.{length, get_or, set, replicate, take, drop, length-append, length-take, length-drop, take-append-drop, drop_of_length-le}
+use lib.Seq.{get_or-take, sets, take_all, length-take-le}
+use Rattle.std.proofs.lemmas.List.{get_or_default}
 use Rattle.basics.specs.Text.{bytes}
 use Rattle.text_numbers.specs.Print.{print_number}
 use Rattle.text_numbers.specs.Inner.{Put}
 use Rattle.text_numbers.proofs.Writing.{print_length, put_then}
 use Rattle.text_put_fields.proofs.Lengths.{action_length}
-use Rattle.replay_answers.specs.Types.{Answer}
+use Rattle.replay_answers.specs.Types.{Answer, Kept}
 use Rattle.replay_answers.specs.Answers.{print_item, is_silent, print_answer, answers_text}
 use Rattle.replay_answers.specs.Inner.{no_answer, kept_at}
 
@@ -23,6 +24,10 @@ pub none_kept_lem : (n i : ℕ) → kept_at (replicate n no_answer) i ≡ Answer
 none_kept_lem zero i = refl
 none_kept_lem (suc n) zero = refl
 none_kept_lem (suc n) (suc i) = none_kept_lem n i
+
+-- an answer among the first n
+pub kept_front : (ks : List Kept) (n i : ℕ) (d : Kept) → i < length (take n ks) → (get_or (take n ks) i d).answer ≡ kept_at ks i
+kept_front ks n i d h = ap (λ (k : Kept). k.answer) (get_or_default (take n ks) i d no_answer h ∙ get_or-take n ks i no_answer (omega (arith, length-take n ks)))
 
 -- ---- how long
 pub item_length : (a : Answer) → length (print_item a) ≤ 68
@@ -78,28 +83,3 @@ line_of_lem i a e = rw e refl
 pub no_line : (i : ℕ) (a : Answer) → is_silent a ≡ true → print_answer i a ≡ []
 unfolding print_answer
 no_line i a e = rw e refl
-
--- ---- the rest of a buffer
-set_past : (p q : List ℕ) (k v : ℕ) → set (p ++ q) (length p + k) v ≡ p ++ set q k v
-set_past [] q k v = rw zero-add
-set_past (x ∷ p) q k v = rw suc-add (ap (λ l. x ∷ l) (set_past p q k v))
-
-sets_past : (p q : List ℕ) (k : ℕ) (w : List ℕ) → sets (p ++ q) (length p + k) w ≡ p ++ sets q k w
-sets_past p q k [] = refl
-sets_past p q k (v ∷ w) = rw (set_past p q k v, ← add-suc (length p) k) (sets_past p (set q k v) (suc k) w)
-
-pub rest : (at : ℕ) (xs : List ℕ) → take (length xs - at) (drop at xs) ≡ drop at xs
-rest at xs = take_all (length xs - at) (drop at xs) (simp length-drop (omega arith))
-
--- a text put at the start of the rest is put at that place of the whole
-pub put_rest : (w xs ys : List ℕ) (at used : ℕ) → at ≤ length xs → Put w 0 (take (length xs - at) (drop at xs)) used ys
-    → Put w at xs (at + used) (take at xs ++ (ys ++ drop (length xs - at) (drop at xs)))
-put_rest w xs ys at used h p =
-    let d : drop (length xs - at) (drop at xs) ≡ [] = drop_of_length-le (drop at xs) {i = length xs - at} (simp length-drop (omega arith)) in
-    let a : length (take at xs) ≡ at = length-take-le at xs h in
-    let whole : sets xs at w ≡ take at xs ++ sets (drop at xs) 0 w =
-    (rw (take-append-drop at xs, a, add-zero) at (sets_past (take at xs) (drop at xs) 0 w)) in
-    record {
-      after = omega (arith, p.after);
-      bytes = rw (d, append-nil) (ap (λ l. take at xs ++ l) (p.bytes ∙ rw (rest at xs)) ∙ sym whole);
-    }

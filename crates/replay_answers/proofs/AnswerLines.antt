@@ -2,7 +2,7 @@
 use mathlib.Core.Path.{◌≡◌, refl, sym, ap, ◌∙◌}
 use mathlib.Core.Bool.{true, false, true≢false}
 use mathlib.Core.List.{List, [], ◌∷◌, ◌++◌, append_assoc}
-use mathlib.Core.Option.{some}
+use Rattle.std.specs.Prelude.{Some}
 use Prim.Native.Nat.{ℕ, zero, suc, ◌+◌, ◌<◌}
 use native.Mathlib.Decide.{ℕ_discrete}
 use native.Mathlib.Omega.{arith}
@@ -52,7 +52,7 @@ module _ (p n : ℕ) (a : Action) (h : AnswerShort (Answer.Hit p n a)) (u : List
   abbrev text : List ℕ
   text = bytes " hit=" ++ (print_number p ++ rest)
 
-  hit_reads : read_item text 0 ≡ some (Answer.Hit p n a, 5 + length (print_number p) + 1 + length (print_number n) + 1 + length (print_action a))
+  hit_reads : read_item text 0 ≡ Some (Answer.Hit p n a, 5 + length (print_number p) + 1 + length (print_number n) + 1 + length (print_action a))
   unfolding starts_with mapped keyed word_or both and_then is_digit
   hit_reads =
       let low = h.0 in
@@ -63,8 +63,8 @@ module _ (p n : ℕ) (a : Action) (h : AnswerShort (Answer.Hit p n a)) (u : List
       let at_count : drop (i + 1) text ≡ print_number n ++ more = behind (bytes ",") (print_number n ++ more) text i at_rest in
       let at_more : drop k text ≡ more = behind (print_number n) more text (i + 1) at_count in
       let at_action : drop (k + 1) text ≡ print_action a ++ (10 ∷ u) = behind (bytes ",") (print_action a ++ (10 ∷ u)) text k at_more in
-      let priority : read_number 65535 text 5 ≡ some (p, i) = number_reads 65535 p text 5 rest (omega arith) (omega arith) refl refl in
-      let count : read_number 999 text (i + 1) ≡ some (n, k) = number_reads 999 n text (i + 1) more (omega arith) (omega arith) refl at_count in
+      let priority : read_number 65535 text 5 ≡ Some (p, i) = number_reads 65535 p text 5 rest (omega arith) (omega arith) refl refl in
+      let count : read_number 999 text (i + 1) ≡ Some (n, k) = number_reads 999 n text (i + 1) more (omega arith) (omega arith) refl at_count in
       let action = action_format.reads a h.2 text (k + 1) (10 ∷ u) (lf_ends u) at_action in
       rw (number_apart p 45 [] rest (omega arith), priority, at_rest, count, at_more, action) refl
 
@@ -72,12 +72,12 @@ module _ (p n : ℕ) (a : Action) (h : AnswerShort (Answer.Hit p n a)) (u : List
   unfolding print_item
   hit_text = simp append_assoc
 
-item_reads : (a : Answer) → is_silent a ≡ false → AnswerShort a → (u : List ℕ) → read_item (print_item a ++ (10 ∷ u)) 0 ≡ some (a, 0 + length (print_item a))
+item_reads : (a : Answer) → is_silent a ≡ false → AnswerShort a → (u : List ℕ) → read_item (print_item a ++ (10 ∷ u)) 0 ≡ Some (a, 0 + length (print_item a))
 unfolding print_item starts_with mapped keyed word_or both and_then
 item_reads Answer.Silent f h u = absurd (true≢false f)
 item_reads Answer.Miss f h u = refl
 item_reads (Answer.Hit p n a) f h u =
-    ap (λ s. read_item s 0) (hit_text p n a h u) ∙ hit_reads p n a h u ∙ ap (λ (k : ℕ). some (Answer.Hit p n a, k)) (simp length-append (omega arith))
+    ap (λ s. read_item s 0) (hit_text p n a h u) ∙ hit_reads p n a h u ∙ ap (λ (k : ℕ). Some (Answer.Hit p n a, k)) (simp length-append (omega arith))
 item_reads (Answer.Done true) f h u = refl
 item_reads (Answer.Done false) f h u = refl
 

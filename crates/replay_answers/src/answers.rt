@@ -13,12 +13,7 @@ use text_put_fields::put_action;
 pub fn is_silent(a: Answer) -> bool
     ensures { result ≡ is_silent a }
 {
-    match a {
-        Answer::Silent => true,
-        Answer::Miss => false,
-        Answer::Hit(_, _, _) => false,
-        Answer::Done(_) => false,
-    }
+    matches!(a, Answer::Silent)
 }
 
 // ` hit=10,1,p2`: the priority, how many entries fit at it, the action.
@@ -43,13 +38,8 @@ fn put_item(out: &mut [u8], at: usize, answer: Answer) -> usize
         Answer::Silent => at,
         Answer::Miss => put_bytes(out, at, b" hit=-"),
         Answer::Hit(priority, count, action) => put_hit(out, at, priority, count, action),
-        Answer::Done(done) => {
-            if done {
-                put_bytes(out, at, b" done=yes")
-            } else {
-                put_bytes(out, at, b" done=no")
-            }
-        }
+        Answer::Done(true) => put_bytes(out, at, b" done=yes"),
+        Answer::Done(false) => put_bytes(out, at, b" done=no"),
     }
 }
 
@@ -73,11 +63,9 @@ pub fn answers_length(answers: [Kept; 256], n: usize) -> usize
     ensures { result ≡ length (answers_text (kept_at answers) n) }
 {
     let mut scratch = [0u8; 1];
-    let mut at: usize = 0;
-    for i in 0..n {
-        let kept = answers[i];
-        let answer = kept.answer;
-        at = put_answer(&mut scratch, at, i as u8, answer);
+    let mut at = 0;
+    for (i, kept) in answers[..n].iter().enumerate() {
+        at = put_answer(&mut scratch, at, i as u8, kept.answer);
     }
     at
 }
@@ -96,11 +84,9 @@ pub fn write_answers(out: &mut [u8], answers: [Kept; 256], n: usize) -> usize
     requires { (n ≤ 256) × (length (answers_text (kept_at answers) n) ≤ length out.old) }
     ensures { Put (answers_text (kept_at answers) n) 0 out.old result out.new }
 {
-    let mut at: usize = 0;
-    for i in 0..n {
-        let kept = answers[i];
-        let answer = kept.answer;
-        at = append_answer(out, at, i as u8, answer);
+    let mut at = 0;
+    for (i, kept) in answers[..n].iter().enumerate() {
+        at = append_answer(out, at, i as u8, kept.answer);
     }
     at
 }

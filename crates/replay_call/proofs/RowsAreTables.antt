@@ -1,8 +1,8 @@
 -- What the replay call does on rows is what is defined on tables: for an accepted trace and table text the text of the end rows is that
 -- of the end tables (`end_text`), and with an accepted order both texts are (`texts_are`). Assumes nothing.
+use Rattle.std.specs.Prelude.{Ok, Err}
 use mathlib.Core.Path.{◌≡◌, refl, ap, ◌∙◌, fun_ext}
 use mathlib.Core.List.{List, []}
-use mathlib.Core.Logic.{inl, inr}
 use Prim.Native.Nat.{ℕ, ◌≤◌}
 use lib.ListN.{length}
 use Rattle.refusals.specs.Checks.{Checked, ◌▹◌}
@@ -25,7 +25,7 @@ use Rattle.replay_call.specs.Types.{Event, Row}
 use Rattle.replay_call.specs.Replay.{answer_lines, texts_of}
 use Rattle.replay_call.specs.Inner.{from_tables, row_texts, ordered_from}
 
-module _ (delay : ℕ) (s t : List ℕ) (es : List Event) (rs : List Row) (trace : read_trace delay s ≡ inr es) (tables : read_tables t ≡ inr rs) where
+module _ (delay : ℕ) (s t : List ℕ) (es : List Event) (rs : List Row) (trace : read_trace delay s ≡ Ok es) (tables : read_tables t ≡ Ok rs) where
   sorted : SortedRows rs
   sorted = accepted_sorted t rs tables
 
@@ -37,7 +37,7 @@ module _ (delay : ℕ) (s t : List ℕ) (es : List Event) (rs : List Row) (trace
   end_text q = normal_tables (run_rows es q rs) (run_sorted es q rs sorted) (end_beyond q) ∙ ap tables_text (fun_ext (run_tables es q rs sorted))
 
   module _ (o : List ℕ) where
-    pub texts_are : check_order delay es o ≡ inr tt → row_texts es o rs ≡ texts_of es o (tables_of rs)
+    pub texts_are : check_order delay es o ≡ Ok tt → row_texts es o rs ≡ texts_of es o (tables_of rs)
     unfolding row_texts answer_lines both_texts
     texts_are order =
         let given = fun_ext (run_answers es (length es) o (accepted_complete delay es o order) rs sorted) in
@@ -49,5 +49,5 @@ module _ (delay : ℕ) (s t : List ℕ) (es : List Event) (rs : List Row) (trace
       where
         go : (x : Checked (Unit {0})) → check_order delay es o ≡ x
             → (x ▹ λ _. fitting_both (row_texts es o rs) a b) ≡ (x ▹ λ _. fitting_both (texts_of es o (tables_of rs)) a b)
-        go (inl r) e = refl
-        go (inr u) e = λ i. fitting_both (texts_are e i) a b
+        go (Err r) e = refl
+        go (Ok u) e = λ i. fitting_both (texts_are e i) a b

@@ -1,9 +1,9 @@
 -- Never more than 512 entries are held: from an accepted table text, after every part of any list of at most 256 events (`few_never_over`),
 -- so of every accepted order of an accepted trace (`never_over`). With these only the buffers can be refused (`only_rooms`).
 -- Assumes nothing.
+use Rattle.std.specs.Prelude.{Ok}
 use mathlib.Core.Path.{◌≡◌, refl}
 use mathlib.Core.List.{List}
-use mathlib.Core.Logic.{inr}
 use Prim.Native.Nat.{ℕ, ◌≤◌}
 use native.Mathlib.Omega.{arith}
 use lib.ListN.{length, take, length-take}
@@ -23,13 +23,13 @@ use Rattle.replay_call.specs.Replay.{texts_of, replayed}
 use Rattle.replay_call.specs.Held.{NeverOver}
 
 -- at most 256 entries come in, and each of at most 256 events adds at most one
-pub few_never_over : (t : List ℕ) (rs : List Row) → read_tables t ≡ inr rs → (es : List Event) (o : List ℕ) → length o ≤ 256 → NeverOver es o rs
+pub few_never_over : (t : List ℕ) (rs : List Row) → read_tables t ≡ Ok rs → (es : List Event) (o : List ℕ) → length o ≤ 256 → NeverOver es o rs
 few_never_over t rs tables es o short = record {
   entries = λ k n. omega (arith, held_run n (operation_at es) (take k o) (tables_of rs), accepted_held t rs tables n, length-take k o);
   rows = λ k. omega (arith, run_length es (take k o) rs, accepted_length t rs tables, length-take k o);
 }
 
-module _ (delay : ℕ) (s t o : List ℕ) (es : List Event) (rs : List Row) (trace : read_trace delay s ≡ inr es) (tables : read_tables t ≡ inr rs) (order : check_order delay es o ≡ inr tt) where
+module _ (delay : ℕ) (s t o : List ℕ) (es : List Event) (rs : List Row) (trace : read_trace delay s ≡ Ok es) (tables : read_tables t ≡ Ok rs) (order : check_order delay es o ≡ Ok tt) where
   pub never_over : NeverOver es o rs
   never_over = few_never_over t rs tables es o (omega (arith, ((trace_accepted_iff delay s es).0 trace).few, (accepted_complete delay es o order).size))
 

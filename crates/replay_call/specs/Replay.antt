@@ -1,6 +1,5 @@
 -- Document 01, "Tables and replay" and "Refusal table": what a replay refuses or writes.
-use Rattle.std.specs.Prelude.{List, ℕ, length}
-use Rattle.std.proofs.Common.{inr}
+use Rattle.std.specs.Prelude.{List, ℕ, length, Ok}
 use Rattle.refusals.specs.Checks.{Checked, ◌▹◌, refuse_short}
 use Rattle.flow_table.specs.Switches.{Tables}
 use Rattle.order_meaning.specs.Tables.{end_tables, answers}
@@ -31,4 +30,4 @@ replayed delay trace tables o room room' =
     check_order delay es o ▹ λ _.
     refuse_short room (texts_of es o (tables_of rs)).tables Refusal.TablesShort ▹ λ _.
     refuse_short room' (texts_of es o (tables_of rs)).answers Refusal.AnswersShort ▹ λ _.
-    inr (texts_of es o (tables_of rs))
+    Ok (texts_of es o (tables_of rs))

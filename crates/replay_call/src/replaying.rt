@@ -8,10 +8,9 @@ ghost use Rattle.replay_texts.specs.Inner.{fitting_both, Leaves};
 ghost use Rattle.replay_call.specs.Replay.{replayed};
 ghost use Rattle.replay_call.specs.Inner.{row_texts, ordered_from};
 
-use call_answers::ReplayAnswer;
 use inputs::read_both;
 use order_check::check_order;
-use refusals::Outcome;
+use refusals::Refusal;
 use replay_texts::write_both;
 use rows::Rows;
 use trace_events::Trace;
@@ -23,7 +22,7 @@ fn run_order(
     order: &[u8],
     out: &mut [u8],
     answered: &mut [u8],
-) -> ReplayAnswer
+) -> Result<(usize, usize), Refusal>
     requires { (t.len ≤ 256) × (start.len ≤ 256) × SortedRows (rows_of start) × (length order.now ≤ 256) }
     ensures { Leaves (fitting_both (row_texts (events_of t) order.now (rows_of start)) (length out.old) (length answered.old)) result out.old out.new answered.old answered.new }
 {
@@ -42,16 +41,13 @@ fn replay_order(
     delay: u32,
     out: &mut [u8],
     answered: &mut [u8],
-) -> ReplayAnswer
+) -> Result<(usize, usize), Refusal>
     requires { (t.len ≤ 256) × (start.len ≤ 256) × SortedRows (rows_of start) }
     ensures { Leaves (ordered_from delay (events_of t) (rows_of start) order.now (length out.old) (length answered.old)) result out.old out.new answered.old answered.new }
 {
     let earlier = happens_before::happens_before(t, delay);
-    let outcome = check_order(t.len, &earlier, order);
-    match outcome {
-        Outcome::Refused(r) => ReplayAnswer::Refused(r),
-        Outcome::Accepted => run_order(t, start, order, out, answered),
-    }
+    check_order(t.len, &earlier, order)?;
+    run_order(t, start, order, out, answered)
 }
 
 // A trace's events in the given order, under a delay, from the tables of a text: the normalised end tables and the answers, each from its buffer's
@@ -63,19 +59,18 @@ pub fn replay(
     delay: u32,
     tables_out: &mut [u8],
     answers_out: &mut [u8],
-) -> ReplayAnswer
+) -> Result<(usize, usize), Refusal>
     ensures value { result ≡ replay_answer (replayed delay trace.now tables.now order.now (length tables_out.old) (length answers_out.old)) }
     ensures tables_out_after { tables_out.new ≡ written (tables_to_write (replayed delay trace.now tables.now order.now (length tables_out.old) (length answers_out.old))) tables_out.old }
     ensures answers_out_after { answers_out.new ≡ written (answers_to_write (replayed delay trace.now tables.now order.now (length tables_out.old) (length answers_out.old))) answers_out.old }
 {
-    let read = read_both(trace, tables, delay);
-    let outcome = read.outcome;
-    match outcome {
-        Outcome::Refused(r) => ReplayAnswer::Refused(r),
-        Outcome::Accepted => {
-            let events = read.trace;
-            let start = read.rows;
-            replay_order(events, start, order, delay, tables_out, answers_out)
-        }
-    }
+    let inputs = read_both(trace, tables, delay)?;
+    replay_order(
+        inputs.trace,
+        inputs.rows,
+        order,
+        delay,
+        tables_out,
+        answers_out,
+    )
 }

@@ -5,8 +5,6 @@
 
 ghost use Rattle.std.specs.Prelude.{◌≡◌, ◌+◌, ◌≤◌, ◌<◌, length};
 
-use call_answers::TrialsAnswer;
-use program_delay::Delay;
 use program_input::{has_arg, read_arg};
 use std::rt::{Env, Files};
 
@@ -63,12 +61,11 @@ fn print_tried<'a, R: Print + Eprint>(
     delay: u32,
 ) {
     let mut results = result_room();
-    let a = trials_call::try_orders(trace, tables, orders, delay, &mut results);
-    match a {
-        TrialsAnswer::Orders(n) => {
+    match trials_call::try_orders(trace, tables, orders, delay, &mut results) {
+        Ok(n) => {
             print_results(rt, text_lines::front(&results, n));
         }
-        TrialsAnswer::Refused(e) => {
+        Err(e) => {
             program_output::write_refused(rt, trace, tables, e);
         }
     }
@@ -82,11 +79,9 @@ fn try_file<'a, R: Env + Files + Print + Eprint>(
     delay: u32,
 ) {
     let mut buf = order_room();
-    let orders = read_arg(rt, 3, &mut buf);
-    if !orders.ok {
+    let Some(n) = read_arg(rt, 3, &mut buf) else {
         return;
-    }
-    let n = orders.len;
+    };
     if 1048576 < n {
         let _ = rt.eprintln("orders over 1048576 bytes");
         return;
@@ -99,20 +94,16 @@ fn main(rt: HostRuntime) {
         let _ = rt.eprintln("usage: replay_orders TRACE TABLES ORDERS [DELAY]");
         return;
     }
-    let Delay::Given(delay) = program_delay::delay_arg(&rt, 4) else {
+    let Some(delay) = program_delay::delay_arg(&rt, 4) else {
         return;
     };
     let mut trace = [0u8; 65536];
     let mut tables = [0u8; 65536];
-    let first = read_arg(&rt, 1, &mut trace);
-    if !first.ok {
+    let Some(n) = read_arg(&rt, 1, &mut trace) else {
         return;
-    }
-    let second = read_arg(&rt, 2, &mut tables);
-    if !second.ok {
+    };
+    let Some(m) = read_arg(&rt, 2, &mut tables) else {
         return;
-    }
-    let n = first.len;
-    let m = second.len;
+    };
     try_file(&rt, &trace[..n], &tables[..m], delay);
 }

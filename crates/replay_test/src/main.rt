@@ -4,8 +4,8 @@
 // packets; `clock` all 24 orders of four events that clocks order in part; `full` 256 events on 256 entries.
 #![tactic(auto)]
 
-use call_answers::ReplayAnswer;
 use program_delay::DELAY;
+use refusals::Refusal;
 use std::rt::Files;
 
 // An answer: both texts, or the refusal.
@@ -13,16 +13,16 @@ fn print_answer<'a, R: Print + Eprint>(
     rt: &R,
     trace: &'a [u8],
     tables: &'a [u8],
-    a: ReplayAnswer,
+    a: Result<(usize, usize), Refusal>,
     ends: &[u8],
     answers: &[u8],
 ) {
     match a {
-        ReplayAnswer::Lengths(n, m) => {
+        Ok((n, m)) => {
             program_output::write(rt, text_lines::front(ends, n));
             program_output::write(rt, text_lines::front(answers, m));
         }
-        ReplayAnswer::Refused(e) => {
+        Err(e) => {
             program_output::write_refused(rt, trace, tables, e);
         }
     }
@@ -78,17 +78,13 @@ fn replay_short<'a, R: Print + Eprint>(
 fn replay_shorter<'a, R: Print + Eprint>(rt: &R, trace: &'a [u8], tables: &'a [u8], order: &[u8]) {
     let mut ends = [0u8; 65536];
     let mut answers = [0u8; 8192];
-    let a = replay_call::replay(trace, tables, order, DELAY, &mut ends, &mut answers);
-    match a {
-        ReplayAnswer::Lengths(n, m) => {
-            if 0 < n {
-                replay_short(rt, trace, tables, order, n - 1, m);
-            }
-            if 0 < m {
-                replay_short(rt, trace, tables, order, n, m - 1);
-            }
+    if let Ok((n, m)) = replay_call::replay(trace, tables, order, DELAY, &mut ends, &mut answers) {
+        if 0 < n {
+            replay_short(rt, trace, tables, order, n - 1, m);
         }
-        ReplayAnswer::Refused(_) => {}
+        if 0 < m {
+            replay_short(rt, trace, tables, order, n, m - 1);
+        }
     }
 }
 
@@ -125,9 +121,7 @@ fn replay_texts<'a, R: Files + Print + Eprint>(
     orders_name: &[u8],
 ) {
     let mut orders = [0u8; 4096];
-    let read = program_input::read_file(rt, orders_name, &mut orders);
-    if read.ok {
-        let n = read.len;
+    if let Some(n) = program_input::read_file(rt, orders_name, &mut orders) {
         replay_recorded(rt, trace, tables);
         replay_lines(rt, trace, tables, &orders[..n]);
     }
@@ -147,9 +141,7 @@ fn replay_files<R: Files + Print + Eprint>(
     let mut tables = [0u8; 65536];
     let first = program_input::read_file(rt, trace_name, &mut trace);
     let second = program_input::read_file(rt, tables_name, &mut tables);
-    if first.ok & second.ok {
-        let n = first.len;
-        let m = second.len;
+    if let (Some(n), Some(m)) = (first, second) {
         replay_texts(rt, &trace[..n], &tables[..m], orders_name);
     }
 }

@@ -2,4 +2,3 @@
 pub use Rattle.refusals.specs.declared.refusal.Refusal.{Refusal}
 pub use Rattle.flow_table.specs.declared.operation.Answer.{Answer}
 pub use Rattle.rows.specs.declared.row.Row.{Row}
-pub use Rattle.call_answers.specs.declared.replay.ReplayAnswer.{ReplayAnswer}

@@ -1,8 +1,6 @@
 -- Document 01, "Tables and replay": the two texts that a replay writes, and what it answers.
-use Rattle.std.specs.Prelude.{List, ℕ, length}
-use Rattle.std.proofs.Common.{inl, inr}
+use Rattle.std.specs.Prelude.{List, ℕ, length, Ok}
 use Rattle.refusals.specs.Checks.{Checked, ◌▹◌}
-use Rattle.replay_texts.specs.Types.{ReplayAnswer}
 
 -- what a replay writes: the normalised end tables, and the answers by rising event
 pub record Replayed : Type 0 where
@@ -10,13 +8,12 @@ pub record Replayed : Type 0 where
   pub answers : List ℕ
 
 -- what is returned: both lengths, or the refusal
-abbrev pub replay_answer : Checked Replayed → ReplayAnswer
-replay_answer (inl r) = ReplayAnswer.Refused r
-replay_answer (inr x) = ReplayAnswer.Lengths (length x.tables) (length x.answers)
+abbrev pub replay_answer : Checked Replayed → Checked (ℕ × ℕ)
+replay_answer y = y ▹ λ x. Ok (length x.tables, length x.answers)
 
 -- what is written into each buffer
 abbrev pub tables_to_write : Checked Replayed → Checked (List ℕ)
-tables_to_write y = y ▹ λ x. inr x.tables
+tables_to_write y = y ▹ λ x. Ok x.tables
 
 abbrev pub answers_to_write : Checked Replayed → Checked (List ℕ)
-answers_to_write y = y ▹ λ x. inr x.answers
+answers_to_write y = y ▹ λ x. Ok x.answers

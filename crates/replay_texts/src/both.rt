@@ -4,7 +4,6 @@ ghost use Rattle.rows.specs.Rows.{rows_of};
 ghost use Rattle.replay_answers.specs.Inner.{kept_at};
 ghost use Rattle.replay_texts.specs.Inner.{both_texts, fitting_both, Leaves};
 
-use call_answers::ReplayAnswer;
 use refusals::Refusal;
 use replay_answers::Kept;
 use rows::Rows;
@@ -16,19 +15,19 @@ pub fn write_both(
     n: usize,
     out: &mut [u8],
     answered: &mut [u8],
-) -> ReplayAnswer
+) -> Result<(usize, usize), Refusal>
     requires { (rows.len ≤ 512) × (n ≤ 256) }
     ensures { Leaves (fitting_both (both_texts (rows_of rows) (kept_at answers) n) (length out.old) (length answered.old)) result out.old out.new answered.old answered.new }
 {
     let tables_need = tables_normal::normal_length(rows);
     if out.len() < tables_need {
-        return ReplayAnswer::Refused(Refusal::TablesShort(tables_need));
+        return Err(Refusal::TablesShort(tables_need));
     }
     let answers_need = replay_answers::answers_length(answers, n);
     if answered.len() < answers_need {
-        return ReplayAnswer::Refused(Refusal::AnswersShort(answers_need));
+        return Err(Refusal::AnswersShort(answers_need));
     }
     let a = tables_normal::write_normal(out, rows);
     let b = replay_answers::write_answers(answered, answers, n);
-    ReplayAnswer::Lengths(a, b)
+    Ok((a, b))
 }

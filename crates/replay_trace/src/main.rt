@@ -3,8 +3,6 @@
 // tables and then the answers, or what is refused.
 #![tactic(auto)]
 
-use call_answers::ReplayAnswer;
-use program_delay::Delay;
 use program_input::{has_arg, read_arg};
 use std::rt::{Env, Files};
 
@@ -18,14 +16,13 @@ fn print_replay<'a, R: Print + Eprint>(
 ) {
     let mut ends = [0u8; 65536];
     let mut answers = [0u8; 8192];
-    let a = replay_call::replay(trace, tables, order, delay, &mut ends, &mut answers);
-    match a {
-        ReplayAnswer::Lengths(n, m) => {
+    match replay_call::replay(trace, tables, order, delay, &mut ends, &mut answers) {
+        Ok((n, m)) => {
             if program_output::write(rt, text_lines::front(&ends, n)) {
                 program_output::write(rt, text_lines::front(&answers, m));
             }
         }
-        ReplayAnswer::Refused(e) => {
+        Err(e) => {
             program_output::write_refused(rt, trace, tables, e);
         }
     }
@@ -51,9 +48,7 @@ fn print_ordered<'a, R: Env + Files + Print + Eprint>(
     delay: u32,
 ) {
     let mut buf = [0u8; 257];
-    let order = read_arg(rt, 3, &mut buf);
-    if order.ok {
-        let n = order.len;
+    if let Some(n) = read_arg(rt, 3, &mut buf) {
         print_replay(rt, trace, tables, &buf[..n], delay);
     }
 }
@@ -76,20 +71,16 @@ fn main(rt: HostRuntime) {
         let _ = rt.eprintln("usage: replay_trace TRACE TABLES [ORDER [DELAY]]");
         return;
     }
-    let Delay::Given(delay) = program_delay::delay_arg(&rt, 4) else {
+    let Some(delay) = program_delay::delay_arg(&rt, 4) else {
         return;
     };
     let mut trace = [0u8; 65536];
     let mut tables = [0u8; 65536];
-    let first = read_arg(&rt, 1, &mut trace);
-    if !first.ok {
+    let Some(n) = read_arg(&rt, 1, &mut trace) else {
         return;
-    }
-    let second = read_arg(&rt, 2, &mut tables);
-    if !second.ok {
+    };
+    let Some(m) = read_arg(&rt, 2, &mut tables) else {
         return;
-    }
-    let n = first.len;
-    let m = second.len;
+    };
     print_texts(&rt, &trace[..n], &tables[..m], delay);
 }

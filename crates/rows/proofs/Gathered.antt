@@ -9,7 +9,6 @@ use native.Mathlib.Omega.{arith}
 use lib.ListN.{length}
 use borrow.Author.Tests.{lt-ltb, eq-eqb, ne_eqb}
 use Rattle.flow.specs.Entries.{key_order}
-use Rattle.flow.specs.Orders.{order_of, then_by}
 use Rattle.flow.proofs.Orders.{number_equal}
 use Rattle.basics.specs.Searches.{gather}
 use Rattle.basics.proofs.Gathered.{in_gather, gather_in, sum_more, sum_none}
@@ -26,7 +25,7 @@ rows_at ts w = map (row w) (ts w)
 
 -- ---- a table in order, as rows
 key_row : (w : ℕ) (d e : Entry) → key_order d.key e.key ≡ Ordering.Less → row_order (row w d) (row w e) ≡ Ordering.Less
-unfolding row_order then_by
+unfolding row_order
 key_row w d e h = rw (number_equal refl) h
 
 before_rows : (w : ℕ) (d : Entry) (t : Table) → Before d.key t → RowBefore (row w d) (map (row w) t)
@@ -52,7 +51,7 @@ sorted_both (x ∷ xs) ys s t h =
     (before_both x xs ys s.0 (before_all x ys (λ y m. h x y (Memᴰ.head refl) m)), sorted_both xs ys s.1 t (λ z y m n. h z y (Memᴰ.tail m) n))
 
 switch_less : (x y : Row) → x.switch < y.switch → row_order x y ≡ Ordering.Less
-unfolding row_order then_by order_of
+unfolding row_order
 switch_less x y h = rw (lt-ltb x.switch y.switch h)
 
 switch_of_lem : (ts : Tables) (w : ℕ) (x : Row) → Memᴰ x (rows_at ts w) → x.switch ≡ w

@@ -4,7 +4,8 @@ use mathlib.Core.Logic.{◌↔◌}
 use mathlib.Core.Bool.{true, false≢true}
 use Prim.Native.Nat.{ℕ}
 use Rattle.flow.specs.Entries.{key_order, is_equal}
-use Rattle.flow.specs.Orders.{order_of, then_by, IsOrder, opposite}
+use Rattle.std.specs.Ordering.{nat_cmp, ordering_then}
+use Rattle.flow.specs.Orders.{IsOrder, opposite}
 use Rattle.flow.proofs.Orders.{rising, in_turn}
 use Rattle.flow.proofs.Entries.{key_order_lem}
 use Rattle.rows.specs.Types.{Key, Ordering, Row}
@@ -18,7 +19,7 @@ abbrev pub slot_of : Row → Slot
 slot_of r = record { switch = r.switch; key = r.entry.key }
 
 abbrev pub slot_order : Slot → Slot → Ordering
-slot_order a b = then_by (order_of a.switch b.switch) (key_order a.key b.key)
+slot_order a b = ordering_then (nat_cmp a.switch b.switch) (key_order a.key b.key)
 
 -- equal only where switch and key are; opposite when swapped; transitive
 pub slot_order_lem : IsOrder Slot slot_order

@@ -2,7 +2,7 @@
 -- Assumes nothing.
 use mathlib.Core.Path.{◌≡◌, refl, sym, ◌∙◌, ap, subst}
 use mathlib.Core.Bool.{Bool, true, false, ◌&&◌, ◌||◌, cond}
-use mathlib.Core.Option.{some}
+use Rattle.std.specs.Prelude.{Some}
 use mathlib.Core.Logic.{⊎_elim}
 use mathlib.Core.List.Memᴰ
 use mathlib.Core.List.{List, [], ◌∷◌, Memᴰ}
@@ -11,7 +11,6 @@ use native.Mathlib.Omega.{arith}
 use lib.Dec.{eqb}
 use borrow.Author.Tests.{eqb-true, eq-eqb}
 use Rattle.flow.specs.Entries.{key_order, same_key}
-use Rattle.flow.specs.Orders.{then_by}
 use Rattle.basics.proofs.Booleans.{split, and_left, and_right, cond_same, cond_swap}
 use Rattle.flow.proofs.Orders.{number_equal}
 use Rattle.flow.proofs.Entries.{same_eq}
@@ -24,7 +23,7 @@ use Rattle.rows.proofs.RowLaws.{sorted_insert_row, same_rows}
 
 -- ---- the table of a switch is in order
 less_key : (r s : Row) → r.switch ≡ s.switch → row_order r s ≡ Ordering.Less → key_order r.entry.key s.entry.key ≡ Ordering.Less
-unfolding row_order then_by
+unfolding row_order
 less_key r s q e = rw (number_equal q) at e
 
 before_table : (r : Row) (xs : List Row) → RowBefore r xs → Before r.entry.key (table_of r.switch xs)
@@ -78,11 +77,11 @@ module _ (w : ℕ) (k : Key) where
   at : Row → Bool
   at x = eqb w x.switch && same_key k x.entry.key
 
-  get_cons : (x : Row) (xs : List Row) → get k (table_of w (x ∷ xs)) ≡ cond (at x) (some x.entry.action) (get k (table_of w xs))
+  get_cons : (x : Row) (xs : List Row) → get k (table_of w (x ∷ xs)) ≡ cond (at x) (Some x.entry.action) (get k (table_of w xs))
   unfolding at
   get_cons x xs = go (eqb w x.switch)
     where
-      go : (b : Bool) → get k (cond b (x.entry ∷ table_of w xs) (table_of w xs)) ≡ cond (b && same_key k x.entry.key) (some x.entry.action) (get k (table_of w xs))
+      go : (b : Bool) → get k (cond b (x.entry ∷ table_of w xs) (table_of w xs)) ≡ cond (b && same_key k x.entry.key) (Some x.entry.action) (get k (table_of w xs))
       go true = refl
       go false = refl
 
@@ -97,22 +96,22 @@ module _ (w : ℕ) (k : Key) where
       let q = sym (same_eq _ _ (and_right (eqb w r.switch) _ e)) ∙ same_eq _ _ (and_right (eqb w x.switch) _ f) in
       λ i. record { switch = p i; key = q i }
 
-  get_insert_row : (r : Row) (rs : List Row) → get k (table_of w (insert_row r rs)) ≡ cond (at r) (some r.entry.action) (get k (table_of w rs))
+  get_insert_row : (r : Row) (rs : List Row) → get k (table_of w (insert_row r rs)) ≡ cond (at r) (Some r.entry.action) (get k (table_of w rs))
   unfolding insert_row
   get_insert_row r [] = get_cons r []
   get_insert_row r (x ∷ xs) = go (row_order r x) refl (get_insert_row r xs)
     where
-      go : (o : Ordering) → row_order r x ≡ o → get k (table_of w (insert_row r xs)) ≡ cond (at r) (some r.entry.action) (get k (table_of w xs))
-          → get k (table_of w (insert_row_by o r x xs (insert_row r xs))) ≡ cond (at r) (some r.entry.action) (get k (table_of w (x ∷ xs)))
+      go : (o : Ordering) → row_order r x ≡ o → get k (table_of w (insert_row r xs)) ≡ cond (at r) (Some r.entry.action) (get k (table_of w xs))
+          → get k (table_of w (insert_row_by o r x xs (insert_row r xs))) ≡ cond (at r) (Some r.entry.action) (get k (table_of w (x ∷ xs)))
       go Ordering.Less q ih = get_cons r (x ∷ xs)
       go Ordering.Equal q ih =
-          get_cons r xs ∙ sym (ap (cond (at r) (some r.entry.action))
-          (get_cons x xs ∙ ap (λ b. cond b (some x.entry.action) (get k (table_of w xs))) (sym (at_slot r x (row_same r x q))))
+          get_cons r xs ∙ sym (ap (cond (at r) (Some r.entry.action))
+          (get_cons x xs ∙ ap (λ b. cond b (Some x.entry.action) (get k (table_of w xs))) (sym (at_slot r x (row_same r x q))))
           ∙ cond_same (at r) _ _ _)
       go Ordering.Greater q ih =
-          get_cons x (insert_row r xs) ∙ ap (cond (at x) (some x.entry.action)) ih
+          get_cons x (insert_row r xs) ∙ ap (cond (at x) (Some x.entry.action)) ih
           ∙ cond_swap (at x) (at r) _ _ _ (λ e f. greater≢equal (sym q ∙ like_slot r x x (at_both r x f e) ∙ row_self x))
-          ∙ ap (cond (at r) (some r.entry.action)) (sym (get_cons x xs))
+          ∙ ap (cond (at r) (Some r.entry.action)) (sym (get_cons x xs))
 
 pub table_insert : (w : ℕ) (r : Row) (rs : List Row) → SortedRows rs → table_of w (insert_row r rs) ≡ cond (eqb w r.switch) (insert r.entry.key r.entry.action (table_of w rs)) (table_of w rs)
 unfolding at

@@ -2,7 +2,7 @@
 -- the changes of a table on such a list.
 use Rattle.std.specs.Prelude.{◌≡◌, Bool, false, ◌&&◌, ◌||◌, cond, List, [], ◌∷◌, ℕ, eqb, take}
 use Rattle.flow.specs.Entries.{key_order, is_equal, same_key}
-use Rattle.flow.specs.Orders.{order_of, then_by}
+use Rattle.std.specs.Ordering.{nat_cmp, ordering_then}
 use Rattle.flow_table.specs.FlowTable.{Table, inside, clash, admits}
 use Rattle.flow_table.specs.Switches.{Tables}
 use Rattle.rows.specs.Types.{Action, Key, Entry, Ordering, Row, Rows, Filter}
@@ -16,7 +16,7 @@ row w e = record { switch = w; entry = e }
 
 -- by switch, then in table order
 unfoldable pub row_order : Row → Row → Ordering
-row_order r s = then_by (order_of r.switch s.switch) (key_order r.entry.key s.entry.key)
+row_order r s = ordering_then (nat_cmp r.switch s.switch) (key_order r.entry.key s.entry.key)
 
 -- the same switch and key
 unfoldable pub same_slot : Row → Row → Bool

@@ -20,16 +20,16 @@ pub enum Filter {
 }
 
 impl Filter {
+    #[tactic(auto, using(flow::proofs::Derived::key_same))]
     pub fn passes(self, key: Key) -> bool
         ensures { result ≡ passes self key }
     {
-        let n = key.pattern;
         match self {
             Filter::Nothing => false,
-            Filter::Same(k) => k.same(key),
-            Filter::Within(m) => n.within(m),
+            Filter::Same(k) => k == key,
+            Filter::Within(m) => key.pattern.within(m),
             Filter::Clash(k) => flow_table::clash(k, key),
-            Filter::Fits(p) => n.fits(p),
+            Filter::Fits(p) => key.pattern.fits(p),
         }
     }
 
@@ -39,10 +39,7 @@ impl Filter {
     {
         match self {
             Filter::Nothing => n,
-            Filter::Same(_) => 0,
-            Filter::Within(_) => 0,
-            Filter::Clash(_) => 0,
-            Filter::Fits(_) => 0,
+            _ => 0,
         }
     }
 }

@@ -3,7 +3,8 @@ ghost use Rattle.std.specs.Prelude.{◌≡◌};
 ghost use Rattle.rows.specs.Rows.{row_order, on_switch, passes, assign_row};
 
 use crate::filter::Filter;
-use flow::{Action, Entry, Ordering};
+use flow::{Action, Entry};
+use std::cmp::Ordering;
 
 #[derive(Clone, Copy)]
 pub struct Row {
@@ -11,7 +12,7 @@ pub struct Row {
     pub entry: Entry,
 }
 
-// The rows are the first `len` of the array.
+// The rows are the first `len` of the array: fixed memory, no heap.
 #[derive(Clone, Copy)]
 pub struct Rows {
     pub rows: [Row; 512],
@@ -20,36 +21,36 @@ pub struct Rows {
 
 impl Row {
     // By switch, then in table order.
+    #[tactic(auto, unfolding(crate::specs::Rows::row_order))]
     pub fn order(self, other: Row) -> Ordering
         ensures { result ≡ row_order self other }
     {
-        let e = self.entry;
-        let f = other.entry;
-        let by_entry = e.order(f);
-        flow::ordering::order_of(self.switch as u32, other.switch as u32, by_entry)
+        let by_entry = self.entry.order(other.entry);
+        self.switch.cmp(&other.switch).then(by_entry)
     }
 
     // The row is of the switch, and its key passes the filter.
+    #[tactic(auto, unfolding(crate::specs::Rows::on_switch))]
     pub fn passes(self, switch: u8, filter: Filter) -> bool
         ensures { result ≡ on_switch switch (passes filter) self }
     {
-        let e = self.entry;
-        let k = e.key;
-        (switch == self.switch) & filter.passes(k)
+        switch == self.switch && filter.passes(self.entry.key)
     }
 
     // The row, with the action if it is chosen.
+    #[tactic(auto, unfolding(crate::specs::Rows::assign_row))]
     pub fn assigned(self, chosen: bool, action: Action) -> Row
         ensures { result ≡ assign_row chosen action self }
     {
-        if chosen {
-            let e = self.entry;
-            let key = e.key;
-            return Row {
-                switch: self.switch,
-                entry: Entry { key, action },
-            };
+        if !chosen {
+            return self;
         }
-        self
+        Row {
+            entry: Entry {
+                action,
+                ..self.entry
+            },
+            ..self
+        }
     }
 }

@@ -1,2 +1,3 @@
-pub mod Searches
-pub mod Shifts
+pub mod Searched
+pub mod Inserted
+pub mod Found

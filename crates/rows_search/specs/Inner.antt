@@ -1,35 +1,17 @@
--- Inner: a row's place among rows, and the search for it.
-use Rattle.std.specs.Prelude.{◌≡◌, Bool, true, false, List, [], ◌∷◌, ◌++◌, ℕ, ◌+◌, ◌≤◌, take, drop}
-use Rattle.basics.specs.Searches.{size}
-use Rattle.rows.specs.Types.{Ordering}
+-- Inner: the place of a row among rows in order.
+use Rattle.std.specs.Prelude.{◌≡◌, true, false, List, ℕ, ◌<◌, ◌≤◌, length, get_or, set}
+use Rattle.std.specs.List.{insert}
 use Rattle.rows.specs.declared.row.Row.{Row}
-use Rattle.rows.specs.Rows.{row_order, insert_row}
-use Rattle.rows_search.specs.declared.searching.Search.{Search}
-use Rattle.rows_search.specs.declared.searching.Room.{Room}
+use Rattle.rows.specs.Rows.{same_slot, insert_row, any_row}
 
--- the search stops at a row with r's switch and key
-abbrev pub found_by : Ordering → Bool → Bool
-found_by Ordering.Less rest = false
-found_by Ordering.Equal rest = true
-found_by Ordering.Greater rest = rest
+-- the row at index i has r's switch and key: r is put over it
+pub record StandsAt (r : Row) (rows : List Row) (i : ℕ) : Type 0 where
+  pub within : i < length rows
+  pub same : (d : Row) → same_slot r (get_or rows i d) ≡ true
+  pub puts : insert_row r rows ≡ set rows i r
 
-unfoldable pub found : Row → List Row → Bool
-found r [] = false
-found r (x ∷ xs) = found_by (row_order r x) (found r xs)
-
--- r goes to index i of the first n rows, over the row there if that has its switch and key
-pub record Placed (r : Row) (l : List Row) (n i : ℕ) (same : Bool) : Type 0 where
-  pub within : i + size same ≤ n
-  pub puts : insert_row r (take n l) ≡ take i (take n l) ++ r ∷ drop (i + size same) (take n l)
-  pub tells : same ≡ found r (take n l)
-
--- what is left to search, by how the row compares with that at the middle
-unfoldable pub narrowed_by : Ordering → Search → ℕ → Search
-narrowed_by Ordering.Less s m = record { low = s.low; at = m; same = false }
-narrowed_by Ordering.Equal s m = record { low = s.low; at = m; same = true }
-narrowed_by Ordering.Greater s m = record { low = m + 1; at = s.at; same = s.same }
-
--- room for a row at index i of n rows, or stored over the one there
-abbrev pub room_for : Bool → ℕ → ℕ → Room
-room_for true i n = record { from = i; len = n }
-room_for false i n = record { from = n; len = n + 1 }
+-- no row has them: r is put in at index i
+pub record GoesTo (r : Row) (rows : List Row) (i : ℕ) : Type 0 where
+  pub within : i ≤ length rows
+  pub absent : any_row (same_slot r) rows ≡ false
+  pub puts : insert_row r rows ≡ insert rows i r

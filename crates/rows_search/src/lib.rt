@@ -1,6 +1,6 @@
-// The place of a row among the sorted rows of all switches, searched by halving, and the room for it.
+// The place of a row among rows in order, and a row put in at its place.
 #![tactic(auto)]
 
-pub mod searching;
+pub mod places;
 
-pub use searching::Search;
+pub use places::{insert_at, place_of, put};

@@ -10,11 +10,12 @@ use native.Mathlib.Omega.{arith}
 use lib.ListN.{length, take, drop, get_or, set, length-set}
 use lib.Seq.{take-set-le, get_or-set_other}
 use Rattle.basics.proofs.Arrays.{next, ended, wrote, skipped, finished}
+use Rattle.std.specs.Prelude.{Option, Some, None}
 use Rattle.flow_table.specs.FlowTable.{effect_of}
 use Rattle.flow_table.specs.Switches.{switch_of}
 use Rattle.rows.specs.Rows.{SortedRows, insert_row, any_row, on_switch, passes}
 use Rattle.rows.specs.Inner.{first_for}
-use Rattle.rows_step.specs.Types.{Operation, Answer, Row, Filter, Put, Work}
+use Rattle.rows_step.specs.Types.{Operation, Answer, Row, Filter, Work}
 use Rattle.rows_step.specs.Stepping.{step_rows, answer_rows}
 use Rattle.rows_step.specs.Inner.{changed, is_dropped, treated, counted, seen, seen_rows, with_put, chosen, WorkFor}
 use Rattle.rows_step.proofs.Works.{none_changed, row_changed, sorted_changed, none_pass, none_seen, nothing_passes}
@@ -24,8 +25,8 @@ pub record Passing (w : Work) (l₀ : List Row) (n : ℕ) (l : List Row) (i k : 
   pub below : k ≤ i
   pub within : i ≤ n
   pub fits : n ≤ 512
-  pub size : length l ≡ 512
-  whole : length l₀ ≡ 512
+  pub size : length l ≡ length l₀
+  whole : n ≤ length l₀
   left : (d : Row) (j : ℕ) → i ≤ j → get_or l j d ≡ get_or l₀ j d
   rows : take k l ++ changed w.change (chosen w) (drop i (take n l₀)) ≡ changed w.change (chosen w) (take n l₀)
   asked : (met || any_row (chosen w) (drop i (take n l₀))) ≡ any_row (chosen w) (take n l₀)
@@ -52,7 +53,7 @@ noted_one p a g b x xs e f = ap (λ h. seen_rows p h xs) (f ∙ ap (λ c. cond c
 
 module _ (w : Work) (l₀ : List Row) (n : ℕ) where
   -- where nothing passes the pass starts past the last row
-  pub pass_start : length l₀ ≡ 512 → n ≤ 512 → counted w.answer ≡ 0 → (i : ℕ) → i ≡ first_for w.filter n → Passing w l₀ n l₀ i i false w.answer
+  pub pass_start : n ≤ length l₀ → n ≤ 512 → counted w.answer ≡ 0 → (i : ℕ) → i ≡ first_for w.filter n → Passing w l₀ n l₀ i i false w.answer
   pass_start s h c i e = subst (λ j. Passing w l₀ n l₀ j j false w.answer) (sym e) (go w.filter refl)
     where
       from_first : Passing w l₀ n l₀ 0 0 false w.answer
@@ -60,7 +61,7 @@ module _ (w : Work) (l₀ : List Row) (n : ℕ) where
         below = omega arith;
         within = omega arith;
         fits = h;
-        size = s;
+        size = refl;
         whole = s;
         left = λ d j g. refl;
         rows = refl;
@@ -74,12 +75,12 @@ module _ (w : Work) (l₀ : List Row) (n : ℕ) where
         below = omega arith;
         within = omega arith;
         fits = h;
-        size = s;
+        size = refl;
         whole = s;
         left = λ d j g. refl;
-        rows = rw (ended l₀ n n (le_refl n) (omega arith)) (ap (λ r. take n l₀ ++ r) (none_changed (chosen w) w.change) ∙ append-nil (take n l₀) ∙ sym (none_pass (chosen w) w.change (take n l₀) z));
-        asked = rw (ended l₀ n n (le_refl n) (omega arith)) (none_asked (chosen w) ∙ sym z);
-        answers = rw (ended l₀ n n (le_refl n) (omega arith)) (nothing_seen (chosen w) w.answer ∙ sym (none_seen (chosen w) w.answer (take n l₀) z));
+        rows = rw (ended l₀ n n (le_refl n) s) (ap (λ r. take n l₀ ++ r) (none_changed (chosen w) w.change) ∙ append-nil (take n l₀) ∙ sym (none_pass (chosen w) w.change (take n l₀) z));
+        asked = rw (ended l₀ n n (le_refl n) s) (none_asked (chosen w) ∙ sym z);
+        answers = rw (ended l₀ n n (le_refl n) s) (nothing_seen (chosen w) w.answer ∙ sym (none_seen (chosen w) w.answer (take n l₀) z));
         count = omega arith;
       }
 
@@ -100,15 +101,15 @@ module _ (w : Work) (l₀ : List Row) (n : ℕ) where
 
     ahead : drop i (take n l₀) ≡ get_or l i d ∷ rest
     unfolding rest
-    ahead = next l₀ n i d h (omega (arith, s.fits, s.whole)) ∙ ap (λ x. x ∷ drop (i + 1) (take n l₀)) (sym here)
+    ahead = next l₀ n i d h s.whole ∙ ap (λ x. x ∷ drop (i + 1) (take n l₀)) (sym here)
 
     stored : (c : Bool) (y : Row) → changed w.change (chosen w) (get_or l i d ∷ rest) ≡ cond c (changed w.change (chosen w) rest) (y ∷ changed w.change (chosen w) rest)
         → take (cond c k (k + 1)) (set l k y) ++ changed w.change (chosen w) rest ≡ changed w.change (chosen w) (take n l₀)
     unfolding rest
     stored true y e =
         ap (λ z. z ++ changed w.change (chosen w) rest) (take-set-le k l k y (le_refl k))
-        ∙ skipped (changed w.change (chosen w)) l₀ n i l _ k (omega (arith, s.fits, s.whole)) s.rows d h (rw here at e)
-    stored false y e = wrote (changed w.change (chosen w)) l₀ n i l _ k (omega (arith, s.fits, s.whole)) s.rows d y h (omega (arith, s.below, s.fits, s.size)) (rw here at e)
+        ∙ skipped (changed w.change (chosen w)) l₀ n i l _ k s.whole s.rows d h (rw here at e)
+    stored false y e = wrote (changed w.change (chosen w)) l₀ n i l _ k s.whole s.rows d y h (omega (arith, s.below, s.size, s.whole)) (rw here at e)
 
     pub pass_turn : (b : Bool) → b ≡ chosen w (get_or l i d) → (y : Row) → y ≡ treated w.change b (get_or l i d) → (c : Bool) → c ≡ is_dropped w.change b
         → (k₁ : ℕ) → k₁ ≡ cond c k (k + 1) → k₁ ≤ k + 1 → (g : Answer) → g ≡ cond b (seen a (get_or l i d).entry) a → counted g ≤ counted a + 1
@@ -127,38 +128,38 @@ module _ (w : Work) (l₀ : List Row) (n : ℕ) where
       count = omega (arith, s.count);
     }
 
--- a pass that has come to the end, by the event o that the work is for
-pub record Passed (o : Operation) (rs : List Row) (n : ℕ) (l : List Row) (k : ℕ) (a : Answer) (p : Put) : Type 0 where
-  pub size : length l ≡ 512
-  pub most : k ≤ n
-  pub sorted : SortedRows (take k l)
-  pub rows : with_put p (take k l) ≡ step_rows o rs
-  pub answered : a ≡ answer_rows o rs
+-- a pass that has come to the end
+module _ (w : Work) (l₀ : List Row) (n : ℕ) (l : List Row) (i k : ℕ) (met : Bool) (a : Answer) (s : Passing w l₀ n l i k met a) (h : n ≤ i) where
+  over : drop i (take n l₀) ≡ []
+  over = ended l₀ n i h s.whole
 
-pub pass_end : (w : Work) (l₀ : List Row) (n : ℕ) (l : List Row) (i k : ℕ) (met : Bool) (a : Answer) → Passing w l₀ n l i k met a → n ≤ i
-    → (o : Operation) → WorkFor (switch_of o) (effect_of o) w → SortedRows (take n l₀) → (p : Put) → p ≡ cond met Put.Nothing w.put → Passed o (take n l₀) n l k a p
-unfolding step_rows answer_rows
-pass_end w l₀ n l i k met a s h o f z p q = record {
-  size = s.size;
-  most = omega (arith, s.below, s.within);
-  sorted = rw kept (sorted_changed (chosen w) w.change (take n l₀) z);
-  rows = rw (kept, q, told) (sym (f.rows (take n l₀)));
-  answered = sym (nothing_seen (chosen w) a) ∙ ap (seen_rows (chosen w) a) (sym over) ∙ s.answers ∙ sym (f.answered (take n l₀));
-}
-  where
-    over : drop i (take n l₀) ≡ []
-    over = ended l₀ n i h (omega (arith, s.fits, s.whole))
+  pub pass_rows : take k l ≡ changed w.change (chosen w) (take n l₀)
+  pass_rows = finished (changed w.change (chosen w)) l₀ n i l _ k s.whole s.rows h (none_changed (chosen w) w.change)
 
-    kept : take k l ≡ changed w.change (chosen w) (take n l₀)
-    kept = finished (changed w.change (chosen w)) l₀ n i l _ k (omega (arith, s.fits, s.whole)) s.rows h (none_changed (chosen w) w.change)
+  pub pass_met : met ≡ any_row (chosen w) (take n l₀)
+  pass_met = sym (or-false met) ∙ ap (λ b. met || b) (sym (none_asked (chosen w)) ∙ ap (any_row (chosen w)) (sym over)) ∙ s.asked
 
-    told : met ≡ any_row (chosen w) (take n l₀)
-    told = sym (or-false met) ∙ ap (λ b. met || b) (sym (none_asked (chosen w)) ∙ ap (any_row (chosen w)) (sym over)) ∙ s.asked
+  pub pass_answer : a ≡ seen_rows (chosen w) w.answer (take n l₀)
+  pass_answer = sym (nothing_seen (chosen w) a) ∙ ap (seen_rows (chosen w) a) (sym over) ∙ s.answers
 
--- what is put in after it
-module _ {o : Operation} {rs : List Row} {n : ℕ} {l : List Row} {k : ℕ} {a : Answer} {p : Put} (s : Passed o rs n l k a p) where
-  pub none_put : p ≡ Put.Nothing → take k l ≡ step_rows o rs
-  none_put e = sym (ap (λ x. with_put x (take k l)) e) ∙ s.rows
+-- what a pass leaves, by the operation o that the work is for
+module _ (o : Operation) (rs ls : List Row) {w : Work} (f : WorkFor (switch_of o) (effect_of o) w) (e : ls ≡ changed w.change (chosen w) rs) where
+  pub left_sorted : SortedRows rs → SortedRows ls
+  left_sorted s = rw e (sorted_changed (chosen w) w.change rs s)
 
-  pub one_put : {r : Row} → p ≡ Put.One r → insert_row r (take k l) ≡ step_rows o rs
-  one_put e = sym (ap (λ x. with_put x (take k l)) e) ∙ s.rows
+  left_with : {met : Bool} {p : Option Row} → met ≡ any_row (chosen w) rs → cond met None w.put ≡ p → with_put p ls ≡ step_rows o rs
+  unfolding step_rows
+  left_with {met} {p} m q = rw (e, ← q, m) (sym (f.rows rs))
+
+  pub left_met : {met : Bool} → met ≡ any_row (chosen w) rs → met ≡ true → ls ≡ step_rows o rs
+  left_met {met} m t = left_with {met = met} {p = None} m (rw t refl)
+
+  pub left_none : {met : Bool} → met ≡ any_row (chosen w) rs → met ≡ false → w.put ≡ None → ls ≡ step_rows o rs
+  left_none {met} m t p = left_with {met = met} {p = None} m (rw (t, p) refl)
+
+  pub left_put : {met : Bool} {r : Row} → met ≡ any_row (chosen w) rs → met ≡ false → w.put ≡ Some r → insert_row r ls ≡ step_rows o rs
+  left_put {met} {r} m t p = left_with {met = met} {p = Some r} m (rw (t, p) refl)
+
+pub pass_answered : (o : Operation) (rs : List Row) {w : Work} {a : Answer} → WorkFor (switch_of o) (effect_of o) w → a ≡ seen_rows (chosen w) w.answer rs → a ≡ answer_rows o rs
+unfolding answer_rows
+pass_answered o rs f e = e ∙ sym (f.answered rs)

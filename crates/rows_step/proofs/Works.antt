@@ -5,11 +5,12 @@ use mathlib.Core.Bool.{Bool, true, false, not, cond}
 use mathlib.Core.List.{List, [], ◌∷◌}
 use Prim.Native.Nat.{ℕ}
 use lib.Dec.{eqb}
+use Rattle.std.specs.Prelude.{Option, Some, None}
 use Rattle.basics.proofs.Booleans.{split, and_false_right, or_left, or_right}
 use Rattle.flow_table.specs.FlowTable.{entry, inside, clash, admits}
 use Rattle.rows.specs.Rows.{row, SortedRows, insert_row, remove_rows, assign_row, assign_rows, any_row, on_switch, passes}
 use Rattle.rows.proofs.RowLaws.{sorted_remove, sorted_assign}
-use Rattle.rows_step.specs.Types.{Packet, Action, Key, Entry, Answer, Effect, Row, Filter, Change, Put}
+use Rattle.rows_step.specs.Types.{Packet, Action, Key, Entry, Answer, Effect, Row, Filter, Change}
 use Rattle.rows_step.specs.Stepping.{effect_step, effect_answer}
 use Rattle.rows_step.specs.Inner.{changed, is_dropped, treated, seen, seen_rows, with_put, WorkFor, putting, removing, work_of}
 use Rattle.rows_step.proofs.Lookups.{lookup_best}
@@ -80,7 +81,7 @@ nothing_passes w (x ∷ xs) = rw (and_false_right (eqb w x.switch) refl) (nothin
 
 -- ---- the work of each event
 -- nothing is asked
-putting_work : (s : ℕ) (v : Effect) (p : Put) → ((rs : List Row) → effect_step s v rs ≡ with_put p rs) → ((rs : List Row) → effect_answer s v rs ≡ Answer.Silent)
+putting_work : (s : ℕ) (v : Effect) (p : Option Row) → ((rs : List Row) → effect_step s v rs ≡ with_put p rs) → ((rs : List Row) → effect_answer s v rs ≡ Answer.Silent)
     → WorkFor s v (putting p)
 unfolding changed
 putting_work s v p f g = record {
@@ -89,7 +90,7 @@ putting_work s v p f g = record {
   answered = λ rs. g rs ∙ silent_stays _ rs;
 }
 
-packet_work : (s : ℕ) (p : Packet) → WorkFor s (Effect.Pkt p) (record { switch = s; filter = Filter.Fits p; change = Change.Keep; put = Put.Nothing; answer = Answer.Miss })
+packet_work : (s : ℕ) (p : Packet) → WorkFor s (Effect.Pkt p) (record { switch = s; filter = Filter.Fits p; change = Change.Keep; put = None; answer = Answer.Miss })
 unfolding changed effect_step effect_answer
 packet_work s p = record {
   fresh = refl;
@@ -97,7 +98,7 @@ packet_work s p = record {
   answered = λ rs. sym (lookup_best s p rs);
 }
 
-checked_work : (s : ℕ) (k : Key) (a : Action) → WorkFor s (Effect.Addc k a) (record { switch = s; filter = Filter.Clash k; change = Change.Keep; put = Put.One (row s (entry k a)); answer = Answer.Done true })
+checked_work : (s : ℕ) (k : Key) (a : Action) → WorkFor s (Effect.Addc k a) (record { switch = s; filter = Filter.Clash k; change = Change.Keep; put = Some (row s (entry k a)); answer = Answer.Done true })
 unfolding changed effect_step effect_answer
 checked_work s k a = record {
   fresh = refl;
@@ -105,7 +106,7 @@ checked_work s k a = record {
   answered = λ rs. sym (done_unless _ rs);
 }
 
-modify_work : (s : ℕ) (k : Key) (a : Action) → WorkFor s (Effect.Modn k a) (record { switch = s; filter = Filter.Within k.pattern; change = Change.Assign a; put = Put.One (row s (entry k a)); answer = Answer.Silent })
+modify_work : (s : ℕ) (k : Key) (a : Action) → WorkFor s (Effect.Modn k a) (record { switch = s; filter = Filter.Within k.pattern; change = Change.Assign a; put = Some (row s (entry k a)); answer = Answer.Silent })
 unfolding changed effect_step effect_answer
 modify_work s k a = record {
   fresh = refl;

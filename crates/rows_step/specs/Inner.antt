@@ -1,9 +1,9 @@
 -- Inner: an event as one pass over the rows and at most one row put in: what becomes of each row, the answer so far, and what the work of an
 -- event is.
-use Rattle.std.specs.Prelude.{◌≡◌, Bool, true, false, cond, List, [], ◌∷◌, ℕ, ◌+◌, eqb, ltb}
+use Rattle.std.specs.Prelude.{◌≡◌, Bool, true, false, cond, Option, Some, None, List, [], ◌∷◌, ℕ, ◌+◌, eqb, ltb}
 use Rattle.flow_table.specs.FlowTable.{entry}
 use Rattle.rows.specs.Rows.{row, insert_row, remove_rows, assign_row, assign_rows, any_row, on_switch, passes}
-use Rattle.rows_step.specs.Types.{Action, Entry, Answer, Effect, Row, Filter, Change, Put, Work}
+use Rattle.rows_step.specs.Types.{Action, Entry, Answer, Effect, Row, Filter, Change, Work}
 use Rattle.rows_step.specs.Stepping.{effect_step, effect_answer}
 
 -- ---- the rows that pass a test are kept, dropped or assigned
@@ -50,9 +50,9 @@ seen_rows q h (x ∷ xs) = seen_rows q (cond (q x) (seen h x.entry) h) xs
 
 -- ---- the work
 -- the rows with what is put in
-abbrev pub with_put : Put → List Row → List Row
-with_put Put.Nothing rs = rs
-with_put (Put.One r) rs = insert_row r rs
+abbrev pub with_put : Option Row → List Row → List Row
+with_put None rs = rs
+with_put (Some r) rs = insert_row r rs
 
 -- the rows that the work is on
 abbrev pub chosen : Work → Row → Bool
@@ -62,23 +62,23 @@ chosen w = on_switch w.switch (passes w.filter)
 -- none passed
 pub record WorkFor (s : ℕ) (v : Effect) (w : Work) : Type 0 where
   pub fresh : counted w.answer ≡ 0
-  pub rows : (rs : List Row) → effect_step s v rs ≡ with_put (cond (any_row (chosen w) rs) Put.Nothing w.put) (changed w.change (chosen w) rs)
+  pub rows : (rs : List Row) → effect_step s v rs ≡ with_put (cond (any_row (chosen w) rs) None w.put) (changed w.change (chosen w) rs)
   pub answered : (rs : List Row) → effect_answer s v rs ≡ seen_rows (chosen w) w.answer rs
 
 -- no row is asked, and what is put in is put in in any case
-abbrev pub putting : Put → Work
+abbrev pub putting : Option Row → Work
 putting p = record { switch = 0; filter = Filter.Nothing; change = Change.Keep; put = p; answer = Answer.Silent }
 
 -- the rows of switch s that pass are dropped
 abbrev pub removing : ℕ → Filter → Work
-removing s f = record { switch = s; filter = f; change = Change.Drop; put = Put.Nothing; answer = Answer.Silent }
+removing s f = record { switch = s; filter = f; change = Change.Drop; put = None; answer = Answer.Silent }
 
 -- the work of an event, by its switch s and what it does there
 unfoldable pub work_of : ℕ → Effect → Work
-work_of s (Effect.Pkt p) = record { switch = s; filter = Filter.Fits p; change = Change.Keep; put = Put.Nothing; answer = Answer.Miss }
-work_of s (Effect.Add k a) = putting (Put.One (row s (entry k a)))
-work_of s (Effect.Addc k a) = record { switch = s; filter = Filter.Clash k; change = Change.Keep; put = Put.One (row s (entry k a)); answer = Answer.Done true }
-work_of s (Effect.Modn k a) = record { switch = s; filter = Filter.Within k.pattern; change = Change.Assign a; put = Put.One (row s (entry k a)); answer = Answer.Silent }
+work_of s (Effect.Pkt p) = record { switch = s; filter = Filter.Fits p; change = Change.Keep; put = None; answer = Answer.Miss }
+work_of s (Effect.Add k a) = putting (Some (row s (entry k a)))
+work_of s (Effect.Addc k a) = record { switch = s; filter = Filter.Clash k; change = Change.Keep; put = Some (row s (entry k a)); answer = Answer.Done true }
+work_of s (Effect.Modn k a) = record { switch = s; filter = Filter.Within k.pattern; change = Change.Assign a; put = Some (row s (entry k a)); answer = Answer.Silent }
 work_of s (Effect.Dels k) = removing s (Filter.Same k)
 work_of s (Effect.Deln m) = removing s (Filter.Within m)
-work_of s Effect.Idle = putting Put.Nothing
+work_of s Effect.Idle = putting None

@@ -2,7 +2,8 @@
 #![tactic(auto)]
 
 pub mod answers;
+pub mod one_pass;
 pub mod work;
 
-pub use answers::noted;
-pub use work::{Change, Put, Work, next_free, work_of};
+pub use one_pass::{Passed, pass};
+pub use work::{Change, Work, work_of};

@@ -1,6 +1,6 @@
 // What an event does to the rows of a switch: those that pass a filter are kept, dropped or assigned, and where none passes a row may
 // be put in.
-ghost use Rattle.std.specs.Prelude.{◌≡◌, cond, ◌+◌, ◌<◌, ◌≤◌};
+ghost use Rattle.std.specs.Prelude.{◌≡◌, Some, cond, ◌+◌, ◌<◌, ◌≤◌};
 ghost use Rattle.flow_table.specs.FlowTable.{entry};
 ghost use Rattle.rows.specs.Rows.{row};
 ghost use Rattle.rows_step.specs.Inner.{is_dropped, treated, putting, removing, work_of};
@@ -17,72 +17,48 @@ pub enum Change {
     Assign(Action),
 }
 
-// What is put in where no row passes.
-#[derive(Clone, Copy)]
-pub enum Put {
-    Nothing,
-    One(Row),
-}
-
-// `answer` is the answer before the first row is seen.
+// `put` is what is put in where no row passes, and `answer` is the answer before the first row is seen.
 #[derive(Clone, Copy)]
 pub struct Work {
     pub switch: u8,
     pub filter: Filter,
     pub change: Change,
-    pub put: Put,
+    pub put: Option<Row>,
     pub answer: Answer,
 }
 
 impl Change {
     // The row is dropped.
-    pub fn drops(self, passes: bool) -> bool
+    pub(crate) fn drops(self, passes: bool) -> bool
         ensures { result ≡ is_dropped self passes }
     {
         match self {
-            Change::Keep => false,
             Change::Drop => passes,
-            Change::Assign(_) => false,
+            Change::Keep | Change::Assign(_) => false,
         }
     }
 
     // What the row becomes, where it is not dropped.
-    pub fn treated(self, passes: bool, row: Row) -> Row
+    pub(crate) fn treated(self, passes: bool, row: Row) -> Row
         ensures { result ≡ treated self passes row }
     {
         match self {
-            Change::Keep => row,
-            Change::Drop => row,
             Change::Assign(action) => row.assigned(passes, action),
+            Change::Keep | Change::Drop => row,
         }
-    }
-}
-
-impl Put {
-    // What is put in, by whether a row passed.
-    pub fn unless(self, met: bool) -> Put
-        ensures { result ≡ cond met Put.Nothing self }
-    {
-        if met {
-            return Put::Nothing;
-        }
-        self
     }
 }
 
 // The next free index: one more if a row was kept.
-pub fn next_free(k: usize, dropped: bool) -> usize
+pub(crate) fn next_free(k: usize, dropped: bool) -> usize
     requires { k < 512 }
     ensures { (result ≡ cond dropped k (k + 1)) × (result ≤ k + 1) }
 {
-    if dropped {
-        return k;
-    }
-    k + 1
+    if dropped { k } else { k + 1 }
 }
 
 // No row is asked, and what is put in is put in in any case.
-fn putting(put: Put) -> Work
+fn putting(put: Option<Row>) -> Work
     ensures { result ≡ putting put }
 {
     Work {
@@ -101,17 +77,17 @@ fn removing(switch: u8, filter: Filter) -> Work
         switch,
         filter,
         change: Change::Drop,
-        put: Put::Nothing,
+        put: None,
         answer: Answer::Silent,
     }
 }
 
 // A row put in.
-fn one(switch: u8, key: Key, action: Action) -> Put
-    ensures { result ≡ Put.One (row switch (entry key action)) }
+fn one(switch: u8, key: Key, action: Action) -> Option<Row>
+    ensures { result ≡ Some (row switch (entry key action)) }
 {
     let entry = Entry { key, action };
-    Put::One(Row { switch, entry })
+    Some(Row { switch, entry })
 }
 
 // The work of an event, by its switch and what it does to that switch's table.
@@ -123,7 +99,7 @@ pub fn work_of(switch: u8, effect: Effect) -> Work
             switch,
             filter: Filter::Fits(p),
             change: Change::Keep,
-            put: Put::Nothing,
+            put: None,
             answer: Answer::Miss,
         },
         Effect::Add(k, a) => putting(one(switch, k, a)),
@@ -134,18 +110,15 @@ pub fn work_of(switch: u8, effect: Effect) -> Work
             put: one(switch, k, a),
             answer: Answer::Done(true),
         },
-        Effect::Modn(k, a) => {
-            let m = k.pattern;
-            Work {
-                switch,
-                filter: Filter::Within(m),
-                change: Change::Assign(a),
-                put: one(switch, k, a),
-                answer: Answer::Silent,
-            }
-        }
+        Effect::Modn(k, a) => Work {
+            switch,
+            filter: Filter::Within(k.pattern),
+            change: Change::Assign(a),
+            put: one(switch, k, a),
+            answer: Answer::Silent,
+        },
         Effect::Dels(k) => removing(switch, Filter::Same(k)),
         Effect::Deln(m) => removing(switch, Filter::Within(m)),
-        Effect::Idle => putting(Put::Nothing),
+        Effect::Idle => putting(None),
     }
 }

@@ -1,8 +1,5 @@
 -- The types that this crate's definitions speak of, under one name each.
 pub use Rattle.refusals.specs.declared.refusal.Refusal.{Refusal}
-pub use Rattle.refusals.specs.declared.refusal.Outcome.{Outcome}
 pub use Rattle.trace_events.specs.declared.event.Event.{Event}
 pub use Rattle.call_answers.specs.declared.list.Counts.{Counts}
 pub use Rattle.call_answers.specs.declared.share.Share.{Share}
-pub use Rattle.call_answers.specs.declared.share.ShareAnswer.{ShareAnswer}
-pub use Rattle.trace_text.specs.declared.text.TraceRead.{TraceRead}

@@ -5,10 +5,10 @@ ghost use Rattle.std.specs.Prelude.{◌≡◌, ◌≤◌};
 ghost use Rattle.trace_events.specs.Events.{events_of};
 ghost use Rattle.list_pairs.specs.List.{counts_of};
 ghost use Rattle.share.specs.Share.{share_of};
-ghost use Rattle.share_call.specs.Shared.{shared, share_answer};
+ghost use Rattle.share_call.specs.Shared.{shared};
 
-use call_answers::{Share, ShareAnswer};
-use refusals::Outcome;
+use call_answers::Share;
+use refusals::Refusal;
 use trace_events::Trace;
 
 // The share of the counts that the list has.
@@ -22,17 +22,10 @@ fn share_in(t: Trace, delay: u32) -> Share
 }
 
 // How many of 1,000 unordered pairs of a trace commute under a delay, with what is left over, or what is refused.
-pub fn share(trace: &[u8], delay: u32) -> ShareAnswer
-    ensures { result ≡ share_answer (shared delay trace.now) }
+#[tactic(auto, unfolding(crate::specs::Shared::shared))]
+pub fn share(trace: &[u8], delay: u32) -> Result<Share, Refusal>
+    ensures { result ≡ shared delay trace.now }
 {
-    let read = trace_text::read_trace(trace, delay);
-    let outcome = read.outcome;
-    match outcome {
-        Outcome::Refused(r) => ShareAnswer::Refused(r),
-        Outcome::Accepted => {
-            let events = read.trace;
-            let x = share_in(events, delay);
-            ShareAnswer::Share(x)
-        }
-    }
+    let events = trace_text::read_trace(trace, delay)?;
+    Ok(share_in(events, delay))
 }

@@ -2,6 +2,4 @@
 pub use Rattle.refusals.specs.declared.refusal.Refusal.{Refusal}
 pub use Rattle.trace_events.specs.declared.event.Event.{Event}
 pub use Rattle.call_answers.specs.declared.list.Counts.{Counts}
-pub use Rattle.call_answers.specs.declared.list.ListAnswer.{ListAnswer}
 pub use Rattle.call_answers.specs.declared.share.Share.{Share}
-pub use Rattle.call_answers.specs.declared.share.ShareAnswer.{ShareAnswer}

@@ -4,14 +4,11 @@ use mathlib.Core.Path.{◌≡◌, refl, sym, ◌∙◌, ap, subst}
 use mathlib.Core.Bool.{Bool, true, false, ◌&&◌, ◌||◌, not, cond, or-true, false≢true}
 use mathlib.Core.List.{List, [], ◌∷◌}
 use Prim.Native.Nat.{ℕ, zero, suc, ◌≤◌, ◌<◌}
-use native.Mathlib.Numerals.{unary_clauses}
 use native.Mathlib.Omega.{arith}
-use lib.Dec.{eqb, ltb, eqb-zero-suc, eqb-suc-zero, eqb-suc-suc}
+use lib.Dec.{eqb, eqb-zero-suc, eqb-suc-zero, eqb-suc-suc}
 use lib.ListN.{length, drop, get_or, drop_of_length-le}
-use borrow.Author.Tests.{ltb-true, ltb-false}
 use Rattle.basics.proofs.Booleans.{split, and_right}
 use Rattle.bit_sets.specs.Inner.{member}
-use Rattle.flow.specs.Entries.{action_code}
 use Rattle.flow.specs.Orders.{opposite}
 use Rattle.flow.proofs.Orders.{equal≢less}
 use Rattle.flow_table.specs.FlowTable.{entry}
@@ -20,18 +17,7 @@ use Rattle.rows.specs.Rows.{row, row_order, same_slot, RowBefore, SortedRows, in
 use Rattle.rows.proofs.RowOrder.{slot_of, row_turn, row_self, like_slot_right, same_slot_iff}
 use Rattle.rows_step.specs.Inner.{seen, seen_rows, chosen}
 use Rattle.slots.specs.Types.{Action, Answer, Row, Work}
-use Rattle.slots.specs.Inner.{action_of, with_action, held_rows, mark_at, Marks}
-
--- ---- an action and its code
-pub code_action : (a : Action) → action_of (action_code a) ≡ a
-code_action Action.Drop = refl
-code_action Action.Controller = refl
-code_action (Action.Port n) = simp unary_clauses
-
-pub action_code_lem : (n : ℕ) → action_code (action_of n) ≡ n
-action_code_lem zero = refl
-action_code_lem (suc zero) = refl
-action_code_lem (suc (suc n)) = omega arith
+use Rattle.slots.specs.Inner.{with_action, held_rows, mark_at, Marks}
 
 -- ---- a test of the slot alone
 abbrev pub OfSlot : (Row → Bool) → Type 0
@@ -147,12 +133,12 @@ module _ (p : Row → Bool) (of : OfSlot p) (U : List Row) (mask : List ℕ) (ma
   pub held_assign : (v : Action) → assign_rows p v (held_rows h a 0 U) ≡ held_rows h (λ i. cond (h i && member mask i) v (a i)) 0 U
   held_assign v = assign_marked p of v h a U ∙ (λ j. held_rows h (λ i. cond (h i && sym (marks i) j) v (a i)) 0 U)
 
-  -- r is the lowest slot that is held and marked, or 512
-  pub held_any : (r : ℕ) → ((k : ℕ) → k < r → (h k && member mask k) ≡ false) → (r < 512 → (h r && member mask r) ≡ true) → length U ≤ 512 → r ≤ 512 → any_row p (held_rows h a 0 U) ≡ ltb r 512
-  held_any r n e few below =
-      split (ltb r 512)
-      (λ u. one_marked p of h a U r (at_mark r (e (ltb-true r 512 u))) ∙ sym u)
-      (λ u. none_marked p of h a U (λ k l. at_mark k (n k (omega (arith, ltb-false r 512 u)))) ∙ sym u)
+  -- one is held and marked, or none
+  pub held_any : (r : ℕ) → (h r && member mask r) ≡ true → any_row p (held_rows h a 0 U) ≡ true
+  held_any r e = one_marked p of h a U r (at_mark r e)
+
+  pub held_none_marked : ((k : ℕ) → (h k && member mask k) ≡ false) → any_row p (held_rows h a 0 U) ≡ false
+  held_none_marked n = none_marked p of h a U (λ k l. at_mark k (n k))
 
   pub seen_skip : (ans : Answer) (i r : ℕ) → i ≤ r → ((k : ℕ) → i ≤ k → k < r → (h k && member mask k) ≡ false)
       → seen_rows p ans (held_rows h a i (drop i U)) ≡ seen_rows p ans (held_rows h a r (drop r U))

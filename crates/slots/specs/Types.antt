@@ -2,6 +2,10 @@
 pub use Rattle.rows.specs.Types.{Action, Entry, Operation, Answer}
 pub use Rattle.rows.specs.declared.row.Row.{Row}
 pub use Rattle.rows_step.specs.declared.work.Change.{Change}
-pub use Rattle.rows_step.specs.declared.work.Put.{Put}
 pub use Rattle.rows_step.specs.declared.work.Work.{Work}
 pub use Rattle.trace_events.specs.declared.event.Event.{Event}
+pub use Rattle.slots.specs.declared.plan.Put.{Put}
+pub use Rattle.slots.specs.declared.plan.Reply.{Reply}
+pub use Rattle.slots.specs.declared.plan.Plan.{Plan}
+pub use Rattle.slots.specs.declared.plan.Steps.{Steps}
+pub use Rattle.slots.specs.declared.plan.State.{State}

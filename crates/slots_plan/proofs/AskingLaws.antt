@@ -23,10 +23,6 @@ asks_passes (Filter.Within m) k h g = within_bits k.pattern m g h
 asks_passes (Filter.Clash j) k h g = ap (λ b. eqb j.priority k.priority && b) (overlaps_bits j.pattern k.pattern h g)
 asks_passes (Filter.Fits p) k h g = overlaps_bits k.pattern (exactly p) g h ∙ sym (fits_exactly k.pattern p)
 
--- a match on a filter: what holds of the form in an arm holds of the filter
-pub in_form : {q : Question} {f form : Filter} → f ≡ form → (q ≡ question_of form) × FilterNarrow form → (q ≡ question_of f) × FilterNarrow f
-in_form {q} e h = subst (λ (g : Filter). (q ≡ question_of g) × FilterNarrow g) (sym e) h
-
 -- a slot asked by its bits
 pub slot_asked : (w : ℕ) (f : Filter) (x : Row) {q : Question} {b : Bits} {a : Bool} → (q ≡ question_of f) × FilterNarrow f
     → BitsFor x b → a ≡ asks q x.entry.key.priority b → (eqb w x.switch && a) ≡ on_switch w (passes f) x

@@ -25,35 +25,23 @@ pub fn question_of(f: Filter) -> Question
 {
     match f {
         Filter::Nothing => Question::Nothing,
-        Filter::Same(k) => {
-            let bits = Bits::of(k.pattern);
-            Question::Same(k.priority, bits)
-        }
-        Filter::Within(m) => {
-            let bits = Bits::of(m);
-            Question::Within(bits)
-        }
-        Filter::Clash(k) => {
-            let bits = Bits::of(k.pattern);
-            Question::Clash(k.priority, bits)
-        }
-        Filter::Fits(p) => {
-            let m = exactly(p);
-            let bits = Bits::of(m);
-            Question::Fits(bits)
-        }
+        Filter::Same(k) => Question::Same(k.priority, Bits::of(k.pattern)),
+        Filter::Within(m) => Question::Within(Bits::of(m)),
+        Filter::Clash(k) => Question::Clash(k.priority, Bits::of(k.pattern)),
+        Filter::Fits(p) => Question::Fits(Bits::of(exactly(p))),
     }
 }
 
 impl Question {
+    #[tactic(auto, using(flow_bits::proofs::Derived::same_words))]
     pub fn asks(self, priority: u16, bits: Bits) -> bool
         ensures { result ≡ asks self priority bits }
     {
         match self {
             Question::Nothing => false,
-            Question::Same(p, b) => (priority == p) & b.same(bits),
+            Question::Same(p, b) => priority == p && b == bits,
             Question::Within(b) => bits.within(b),
-            Question::Clash(p, b) => (p == priority) & b.overlaps(bits),
+            Question::Clash(p, b) => p == priority && b.overlaps(bits),
             Question::Fits(b) => bits.overlaps(b),
         }
     }

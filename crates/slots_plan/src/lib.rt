@@ -5,13 +5,13 @@
 pub mod asking;
 pub mod gathering;
 pub mod masks;
-pub mod numbers;
 pub mod plans;
 pub mod priorities;
+pub mod slot;
 pub mod start;
 
 pub use gathering::slots_of;
 pub use masks::masks_of;
 pub use plans::plans_of;
 pub use priorities::priorities_of;
-pub use start::{Started, start_of};
+pub use start::start_of;

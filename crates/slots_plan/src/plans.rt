@@ -1,61 +1,74 @@
 // The plans of the events.
-ghost use Rattle.std.specs.Prelude.{◌≡◌, ◌≤◌, length};
+ghost use Rattle.std.specs.Prelude.{◌≡◌, ◌≤◌};
 ghost use Rattle.rows.specs.Rows.{rows_of, SortedRows};
 ghost use Rattle.trace_events.specs.Events.{events_of};
-ghost use Rattle.slots_plan.specs.Inner.{put_row, PutsFound, Planned};
+ghost use Rattle.slots.specs.Inner.{PutPlanned};
+ghost use Rattle.slots_plan.specs.Inner.{SlotFound, PutsFound, reply_of, Planned};
 
-use crate::numbers::plan_of;
+use crate::slot::slot_of;
+use flow_table::Answer;
 use order_run::{event_work, operation_of};
 use rows::{Row, Rows};
-use rows_search::Search;
-use rows_step::Put;
+use rows_step::Work;
+use slots::{Plan, Put, Reply};
 use trace_events::Trace;
 
-// The row that is put in, or another where none is.
-fn put_row(put: Put, other: Row) -> Row
-    ensures { result ≡ put_row put other }
+// What an event answers, by the answer to begin with.
+fn reply_of(answer: Answer) -> Reply
+    ensures { result ≡ reply_of answer }
 {
-    match put {
-        Put::Nothing => other,
-        Put::One(row) => row,
+    match answer {
+        Answer::Silent => Reply::Silent,
+        Answer::Miss => Reply::Best,
+        Answer::Hit(_, _, _) | Answer::Done(_) => Reply::Done,
     }
 }
 
-fn no_plans() -> [[u32; 6]; 256]
-    ensures { length result ≡ 256 }
+// The slot of the row that is put in, with its action.
+fn put_of(slots: &Rows, put: Option<Row>) -> Option<Put>
+    requires few { slots.now.len ≤ 512 }
+    requires sorted { SortedRows (rows_of slots.now) }
+    requires found { SlotFound put (rows_of slots.now) }
+    ensures { PutPlanned (rows_of slots.now) put result }
 {
-    [[0u32; 6]; 256]
+    match put {
+        Some(row) => {
+            let slot = slot_of(slots, &row);
+            Some(Put {
+                slot,
+                action: row.entry.action,
+            })
+        }
+        None => None,
+    }
 }
 
-// The plan of each event; past the last, of one that does nothing. Both loops stand here, since an inner call would copy the slots at
-// each event.
-pub fn plans_of(t: Trace, slots: Rows) -> [[u32; 6]; 256]
+// The plan of a work.
+fn plan_of(slots: &Rows, work: Work) -> Plan
+    requires few { slots.now.len ≤ 512 }
+    requires sorted { SortedRows (rows_of slots.now) }
+    requires found { SlotFound work.put (rows_of slots.now) }
+    ensures change { result.change ≡ work.change }
+    ensures put { PutPlanned (rows_of slots.now) work.put result.put }
+    ensures reply { result.reply ≡ reply_of work.answer }
+{
+    Plan {
+        change: work.change,
+        put: put_of(slots, work.put),
+        reply: reply_of(work.answer),
+    }
+}
+
+// The plan of each event; past the last, of one that does nothing.
+pub fn plans_of(t: Trace, slots: Rows) -> [Plan; 256]
     requires { (slots.len ≤ 512) × SortedRows (rows_of slots) × PutsFound (events_of t) (rows_of slots) }
     ensures { Planned (events_of t) (rows_of slots) result }
 {
-    let n = t.len;
-    let len = slots.len;
-    let first = slots.rows[0];
-    let mut plans = no_plans();
+    let mut plans = [Plan::idle(); 256];
     for e in 0..256 {
-        let event = t.events[e];
-        let operation = operation_of(e < n, event);
+        let operation = operation_of(e < t.len, t.events[e]);
         let work = event_work(operation);
-        let put = work.put;
-        let row = put_row(put, first);
-        let mut search = Search {
-            low: 0,
-            at: len,
-            same: false,
-        };
-        while search.low < search.at {
-            let middle = search.middle();
-            let x = slots.rows[middle];
-            let next = search.narrowed(middle, row, x);
-            search = next;
-        }
-        let at = search.at;
-        plans[e] = plan_of(work, at);
+        plans[e] = plan_of(&slots, work);
     }
     plans
 }

@@ -1,4 +1,4 @@
-pub mod Members
+pub mod Writing
 pub mod Looking
 pub mod Assigning
 pub mod StepEnd

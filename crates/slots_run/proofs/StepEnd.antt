@@ -1,37 +1,30 @@
 -- An event on slots by what its parts do. Assumes nothing.
 use mathlib.Core.Path.{◌≡◌, refl, sym, ap, ◌∙◌}
-use mathlib.Core.Bool.{Bool, true, false, not, cond, ◌&&◌}
+use mathlib.Core.Bool.{not, cond, ◌&&◌}
 use mathlib.Core.List.{List}
-use Prim.Native.Nat.{ℕ, zero, suc, ◌<◌}
+use Rattle.std.specs.Prelude.{Option, Some, None, is_some}
+use Prim.Native.Nat.{ℕ}
 use native.Mathlib.Omega.{arith}
-use lib.Dec.{eqb, ltb}
-use lib.ListN.{get_or}
 use Rattle.bit_sets.specs.Inner.{member, NextFrom}
 use Rattle.rows.specs.Rows.{any_row}
 use Rattle.rows_step.specs.Inner.{chosen}
 use Rattle.rows_step.specs.Stepping.{answer_rows}
-use Rattle.slots.specs.Inner.{state_rows}
-use Rattle.slots.proofs.StepLaws.{SetChanged, SetPut, met_step, after_step, inside_step, answer_silent, answer_found, answer_done}
-use Rattle.slots_run.specs.Types.{Answer, Operation, Row}
-use Rattle.slots_run.specs.Inner.{Coded, Written, Asked, Answers, Moment, StepsTo}
+use Rattle.slots.specs.Inner.{action_at, assigned, put_action, state_rows}
+use Rattle.slots.proofs.StepLaws.{SetChanged, SetPut, met_step, unmet_step, after_step, inside_step, answer_silent, answer_found, answer_done}
+use Rattle.slots_run.specs.Types.{Action, Answer, Operation, Row, Plan, Reply}
+use Rattle.slots_run.specs.Inner.{Written, Asked, Answers, Moment, StepsTo}
 
-one_of : {n : ℕ} (b : Bool) {x y : ℕ} → x < n → y < n → cond b x y < n
-one_of true h i = h
-one_of false h i = i
+module _ (set : List ℕ) (actions : List Action) (mask : List ℕ) (plan : Plan) (priorities fitting : List ℕ) (shared : (i : ℕ) → member fitting i ≡ (member set i && member mask i)) (first : Option ℕ)
+    (next : NextFrom fitting 0 first) (slots : List Row) (o : Operation) (m : Moment slots o mask plan priorities set) where
+  met : is_some first ≡ any_row (chosen m.step.work) (state_rows slots set actions)
+  met = go first next
+    where
+      go : (r : Option ℕ) → NextFrom fitting 0 r → is_some r ≡ any_row (chosen m.step.work) (state_rows slots set actions)
+      go None n = sym (unmet_step m.step set actions (λ k. sym (shared k) ∙ n k (omega arith)))
+      go (Some r) n = sym (met_step m.step set actions r (sym (shared r) ∙ n.here))
 
-pub coded : {p : ℕ → Bool} {code : ℕ} {old new : List ℕ} → Written p code old new → code < 65538 → Coded old → Coded new
-coded {p} w h c = record {
-  size = w.size;
-  small = λ i. rw (w.each i) (one_of (p i) h (c.small i));
-}
-
-module _ (set codes mask plan priorities fitting : List ℕ) (shared : (i : ℕ) → member fitting i ≡ (member set i && member mask i)) (first : ℕ) (next : NextFrom fitting 0 first) (slots : List Row)
-    (o : Operation) (m : Moment slots o mask plan priorities set) where
-  met : any_row (chosen m.step.work) (state_rows slots set codes) ≡ ltb first 512
-  met = met_step m.step m.few set codes first (λ k l. sym (shared k) ∙ next.skipped k (omega arith) l) (λ l. sym (shared first) ∙ next.here l) next.inside
-
-  pub answered : (a : Answer) → Answers (get_or plan 5 0) (ltb first 512) fitting priorities codes a → a ≡ answer_rows o (state_rows slots set codes)
-  answered a q = by (get_or plan 5 0) refl
+  pub answered : (a : Answer) → Answers plan.reply (is_some first) fitting priorities actions a → a ≡ answer_rows o (state_rows slots set actions)
+  answered a = by plan.reply refl
     where
       asked : Asked slots m.step.work priorities set mask fitting
       asked = record {
@@ -41,17 +34,17 @@ module _ (set codes mask plan priorities fitting : List ℕ) (shared : (i : ℕ)
         shared = shared;
       }
 
-      by : (n : ℕ) → get_or plan 5 0 ≡ n → a ≡ answer_rows o (state_rows slots set codes)
-      by zero e = q.silent e ∙ sym (answer_silent m.step (state_rows slots set codes) e)
-      by (suc zero) e = q.found e slots m.step.work set mask asked ∙ sym (answer_found m.step (state_rows slots set codes) e)
-      by (suc (suc n)) e = q.done (omega arith) ∙ ap (λ b. Answer.Done (not b)) (sym met) ∙ sym (answer_done m.step (state_rows slots set codes) n e)
+      by : (r : Reply) → plan.reply ≡ r → Answers r (is_some first) fitting priorities actions a → a ≡ answer_rows o (state_rows slots set actions)
+      by Reply.Silent e q = q ∙ sym (answer_silent m.step (state_rows slots set actions) e)
+      by Reply.Best e q = q slots m.step.work set mask asked ∙ sym (answer_found m.step (state_rows slots set actions) e)
+      by Reply.Done e q = q ∙ ap (λ b. Answer.Done (not b)) met ∙ sym (answer_done m.step (state_rows slots set actions) e)
 
-  pub stepped : (left held codes₁ codes₂ : List ℕ) (a : Answer) → SetChanged mask plan set left → Written (λ i. eqb (get_or plan 0 0) 2 && member fitting i) (get_or plan 1 0) codes codes₁
-      → SetPut plan (ltb first 512) left held → Written (λ i. (eqb (get_or plan 2 0) 1 && not (ltb first 512)) && eqb i (get_or plan 3 0)) (get_or plan 4 0) codes₁ codes₂
-      → Answers (get_or plan 5 0) (ltb first 512) fitting priorities codes a → StepsTo slots o set codes codes₂ (record { set = held; answer = a })
-  stepped left held codes₁ codes₂ a l c₁ s c₂ q = record {
-    inside = inside_step m.step set (ltb first 512) left held l s m.inside;
-    rows = after_step m.step m.sorted set codes (ltb first 512) (sym met) left codes₁ held codes₂ l
-        (λ i. c₁.each i ∙ ap (λ b. cond (eqb (get_or plan 0 0) 2 && b) (get_or plan 1 0) (get_or codes i 0)) (shared i)) s c₂.each;
+  pub stepped : (left held : List ℕ) (actions₁ actions₂ : List Action) (a : Answer) → SetChanged mask plan.change set left → Written (λ i. assigned plan.change (member fitting i)) actions actions₁
+      → SetPut (cond (is_some first) None plan.put) left held → Written (put_action (cond (is_some first) None plan.put)) actions₁ actions₂
+      → Answers plan.reply (is_some first) fitting priorities actions a → StepsTo slots o set actions actions₂ (record { set = held; answer = a })
+  stepped left held actions₁ actions₂ a l c₁ s c₂ q = record {
+    inside = inside_step m.step set (is_some first) left held l s m.inside;
+    rows = after_step m.step m.sorted set actions (is_some first) met left actions₁ held actions₂ l
+        (λ i. c₁.each i ∙ ap (λ b. assigned plan.change b (action_at actions i)) (shared i)) s c₂.each;
     answer = answered a q;
   }

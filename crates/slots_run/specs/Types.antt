@@ -6,3 +6,9 @@ pub use Rattle.trace_events.specs.declared.event.Event.{Event}
 pub use Rattle.replay_answers.specs.declared.kept.Kept.{Kept}
 pub use Rattle.slots_run.specs.declared.stepping.Stepped.{Stepped}
 pub use Rattle.slots_run.specs.declared.running.Ended.{Ended}
+pub use Rattle.rows_step.specs.declared.work.Change.{Change}
+pub use Rattle.slots.specs.declared.plan.Put.{Put}
+pub use Rattle.slots.specs.declared.plan.Reply.{Reply}
+pub use Rattle.slots.specs.declared.plan.Plan.{Plan}
+pub use Rattle.slots.specs.declared.plan.Steps.{Steps}
+pub use Rattle.slots.specs.declared.plan.State.{State}

@@ -1,12 +1,13 @@
 // Whether two ends are the same.
-ghost use Rattle.std.specs.Prelude.{◌≡◌, ◌↔◌, true, ℕ, ◌<◌, ◌≤◌, get_or};
+ghost use Rattle.std.specs.Prelude.{◌≡◌, ◌↔◌, true, ℕ, ◌<◌, ◌≤◌};
 ghost use Rattle.bit_sets.specs.Inner.{member};
 ghost use Rattle.replay_answers.specs.Inner.{kept_at};
+ghost use Rattle.slots.specs.Inner.{action_at};
 ghost use Rattle.slots_run.specs.Inner.{SameEnds};
 
-use crate::answers::same_answer;
 use crate::running::Ended;
-use bit_sets::{next, without};
+use bit_sets::{members_of, next, without};
+use flow::Action;
 use replay_answers::Kept;
 
 // The answers of the events below n.
@@ -15,11 +16,7 @@ fn same_answers(a: [Kept; 256], b: [Kept; 256], n: usize) -> bool
     ensures { (result ≡ true) ↔ ((i : ℕ) → i < n → kept_at a i ≡ kept_at b i) }
 {
     for i in 0..n {
-        let x = a[i];
-        let y = b[i];
-        let p = x.answer;
-        let q = y.answer;
-        if !same_answer(p, q) {
+        if a[i].answer != b[i].answer {
             return false;
         }
     }
@@ -31,19 +28,17 @@ fn same_set(a: [u64; 8], b: [u64; 8]) -> bool
 {
     let more = next(without(a, b), 0);
     let fewer = next(without(b, a), 0);
-    (more == 512) & (fewer == 512)
+    more.is_none() & fewer.is_none()
 }
 
-// The codes of the slots of a set.
-fn same_codes(set: [u64; 8], a: &[u32; 512], b: &[u32; 512]) -> bool
-    ensures { (result ≡ true) ↔ ((i : ℕ) → member set i ≡ true → get_or a.now i 0 ≡ get_or b.now i 0) }
+// The actions of the slots of a set.
+fn same_actions(set: [u64; 8], a: &[Action; 512], b: &[Action; 512]) -> bool
+    ensures { (result ≡ true) ↔ ((i : ℕ) → member set i ≡ true → action_at a.now i ≡ action_at b.now i) }
 {
-    let mut i = next(set, 0);
-    while i < 512 {
+    for i in members_of(set) {
         if a[i] != b[i] {
             return false;
         }
-        i = next(set, i + 1);
     }
     true
 }
@@ -53,15 +48,11 @@ pub fn same(a: Ended, b: Ended, n: usize) -> bool
     requires { n ≤ 256 }
     ensures { SameEnds a b n result }
 {
-    let held = a.set;
-    let others = b.set;
-    if !same_set(held, others) {
+    if !same_set(a.state.set, b.state.set) {
         return false;
     }
-    if !same_codes(held, &a.codes, &b.codes) {
+    if !same_actions(a.state.set, &a.state.actions, &b.state.actions) {
         return false;
     }
-    let x = a.answers;
-    let y = b.answers;
-    same_answers(x, y, n)
+    same_answers(a.answers, b.answers, n)
 }

@@ -1,7 +1,6 @@
 // An order of events run on slots, and whether two such ends are the same.
 #![tactic(auto)]
 
-pub mod answers;
 pub mod ends;
 pub mod lookup;
 pub mod running;

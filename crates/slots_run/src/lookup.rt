@@ -1,28 +1,14 @@
 // What a packet meets among the slots held.
-ghost use Rattle.std.specs.Prelude.{◌≡◌, ℕ, ◌+◌, ◌<◌, ◌≤◌, get_or};
+ghost use Rattle.std.specs.Prelude.{◌≡◌, ◌+◌, ◌<◌, ◌≤◌};
 ghost use Rattle.flow_table.specs.FlowTable.{entry};
 ghost use Rattle.rows_step.specs.Inner.{counted, seen};
-ghost use Rattle.slots.specs.Inner.{action_of};
 ghost use Rattle.slots_run.specs.Types.{Key};
 ghost use Rattle.slots_run.specs.Inner.{Found};
 
-use bit_sets::next;
+use bit_sets::members_of;
 use flow::Action;
 use flow_table::Answer;
-
-// The action of a code.
-fn action_of(code: u32) -> Action
-    requires { code < 65538 }
-    ensures { result ≡ action_of code }
-{
-    if code == 0 {
-        return Action::Drop;
-    }
-    if code == 1 {
-        return Action::Controller;
-    }
-    Action::Port((code - 2) as u16)
-}
+use std::cmp::Ordering;
 
 // The answer after one more entry that fits: a higher priority begins anew, the same is counted, a lower one is passed over.
 fn seen(answer: Answer, priority: u16, action: Action) -> Answer
@@ -33,30 +19,22 @@ fn seen(answer: Answer, priority: u16, action: Action) -> Answer
         Answer::Silent => answer,
         Answer::Done(_) => Answer::Done(false),
         Answer::Miss => Answer::Hit(priority, 1, action),
-        Answer::Hit(best, count, first) => {
-            if best < priority {
-                return Answer::Hit(priority, 1, action);
-            }
-            if best == priority {
-                return Answer::Hit(best, count + 1, first);
-            }
-            Answer::Hit(best, count, first)
-        }
+        Answer::Hit(best, count, first) => match best.cmp(&priority) {
+            Ordering::Less => Answer::Hit(priority, 1, action),
+            Ordering::Equal => Answer::Hit(best, count + 1, first),
+            Ordering::Greater => answer,
+        },
     }
 }
 
 // The slots that fit, from the first on.
-pub(crate) fn look_up(fitting: [u64; 8], priorities: &[u16; 512], codes: &[u32; 512]) -> Answer
-    requires { (i : ℕ) → get_or codes.now i 0 < 65538 }
-    ensures { Found fitting priorities.now codes.now result }
+pub(crate) fn look_up(fitting: [u64; 8], priorities: &[u16; 512], actions: &[Action; 512]) -> Answer
+    ensures { Found fitting priorities.now actions.now result }
 {
     let mut answer = Answer::Miss;
-    let mut i = next(fitting, 0);
-    while i < 512 {
-        let action = action_of(codes[i]);
-        let more = seen(answer, priorities[i], action);
+    for i in members_of(fitting) {
+        let more = seen(answer, priorities[i], actions[i]);
         answer = more;
-        i = next(fitting, i + 1);
     }
     answer
 }

@@ -1,12 +1,17 @@
 // An event on slots: what it answers, what becomes of the slots that it asks about, and the slot that it puts in.
-ghost use Rattle.std.specs.Prelude.{◌≡◌, not, ◌&&◌, ◌||◌, List, ℕ, ◌<◌, eqb, length, get_or};
+ghost use Rattle.std.specs.Prelude.{◌≡◌, not, ◌&&◌, ◌||◌, cond, None, List, ℕ};
 ghost use Rattle.bit_sets.specs.Inner.{member};
+ghost use Rattle.rows_step.specs.Inner.{is_dropped};
+ghost use Rattle.slots.specs.Inner.{assigned, put_at, put_action};
 ghost use Rattle.slots_run.specs.Types.{Operation, Row};
-ghost use Rattle.slots_run.specs.Inner.{Coded, Written, Answers, Moment, StepsTo};
+ghost use Rattle.slots_run.specs.Inner.{Written, Answers, Moment, StepsTo};
 
 use crate::lookup::look_up;
-use bit_sets::{common, next, with, without};
+use bit_sets::{common, members_of, next, with, without};
+use flow::Action;
 use flow_table::Answer;
+use rows_step::Change;
+use slots::{Plan, Put, Reply};
 
 // The slots held after an event, and its answer.
 #[derive(Clone, Copy)]
@@ -17,93 +22,82 @@ pub struct Stepped {
 
 // The answer of a plan, by whether a slot held is asked about.
 fn answer_of(
-    kind: u32,
+    reply: Reply,
     met: bool,
     fitting: [u64; 8],
     priorities: &[u16; 512],
-    codes: &[u32; 512],
+    actions: &[Action; 512],
 ) -> Answer
-    requires { (i : ℕ) → get_or codes.now i 0 < 65538 }
-    ensures { Answers kind met fitting priorities.now codes.now result }
+    ensures { Answers reply met fitting priorities.now actions.now result }
 {
-    if kind == 0 {
-        return Answer::Silent;
+    match reply {
+        Reply::Silent => Answer::Silent,
+        Reply::Best => look_up(fitting, priorities, actions),
+        Reply::Done => Answer::Done(!met),
     }
-    if kind == 1 {
-        return look_up(fitting, priorities, codes);
-    }
-    Answer::Done(!met)
 }
 
 // The slots of the mask are dropped, or none is.
-fn left_of(drops: bool, set: [u64; 8], mask: [u64; 8]) -> [u64; 8]
-    ensures { (i : ℕ) → member result i ≡ (member set i && not (drops && member mask i)) }
+fn left_of(change: Change, set: [u64; 8], mask: [u64; 8]) -> [u64; 8]
+    ensures { (i : ℕ) → member result i ≡ (member set i && not (is_dropped change (member mask i))) }
 {
-    if drops {
-        return without(set, mask);
-    }
-    set
-}
-
-// The slots that fit get the code.
-fn assign(fitting: [u64; 8], code: u32, codes: &mut [u32; 512])
-    requires { length codes.old ≡ 512 }
-    ensures { Written (member fitting) code codes.old codes.new }
-{
-    let mut i = next(fitting, 0);
-    while i < 512 {
-        codes[i] = code;
-        i = next(fitting, i + 1);
+    match change {
+        Change::Drop => without(set, mask),
+        Change::Keep | Change::Assign(_) => set,
     }
 }
 
-fn assign_if(assigns: bool, fitting: [u64; 8], code: u32, codes: &mut [u32; 512])
-    requires { length codes.old ≡ 512 }
-    ensures { Written (λ i. assigns && member fitting i) code codes.old codes.new }
+// The slots that fit are assigned, or none is.
+fn assign(change: Change, fitting: [u64; 8], actions: &mut [Action; 512])
+    ensures { Written (λ i. assigned change (member fitting i)) actions.old actions.new }
 {
-    if assigns {
-        assign(fitting, code, codes);
+    if let Change::Assign(action) = change {
+        for i in members_of(fitting) {
+            actions[i] = action;
+        }
     }
 }
 
-// A slot is put in, or none is.
-fn with_slot(puts: bool, set: [u64; 8], slot: usize) -> [u64; 8]
-    requires { slot < 512 }
-    ensures { (i : ℕ) → member result i ≡ ((puts && eqb i slot) || member set i) }
+// The slot that is put in, or none.
+fn put_unless(met: bool, put: Option<Put>) -> Option<Put>
+    ensures { result ≡ cond met None put }
 {
-    if puts {
-        return with(set, slot);
-    }
-    set
+    if met { None } else { put }
 }
 
-fn with_code(puts: bool, slot: usize, code: u32, codes: &mut [u32; 512])
-    requires { (slot < 512) × (length codes.old ≡ 512) }
-    ensures { Written (λ i. puts && eqb i slot) code codes.old codes.new }
+fn with_slot(put: Option<Put>, set: [u64; 8]) -> [u64; 8]
+    ensures { (i : ℕ) → member result i ≡ (put_at put i || member set i) }
 {
-    if puts {
-        codes[slot] = code;
+    match put {
+        Some(p) => with(set, p.slot),
+        None => set,
+    }
+}
+
+fn with_action(put: Option<Put>, actions: &mut [Action; 512])
+    ensures { Written (put_action put) actions.old actions.new }
+{
+    if let Some(p) = put {
+        actions[p.slot] = p.action;
     }
 }
 
 pub(crate) fn step(
     mask: [u64; 8],
-    plan: [u32; 6],
+    plan: Plan,
     priorities: &[u16; 512],
     set: [u64; 8],
-    codes: &mut [u32; 512],
+    actions: &mut [Action; 512],
 ) -> Stepped
-    requires { Coded codes.old × (get_or plan 1 0 < 65538) × (get_or plan 3 0 < 512) × (get_or plan 4 0 < 65538) }
-    ensures { Coded codes.new × ((slots : List Row) (o : Operation) → Moment slots o mask plan priorities.now set → StepsTo slots o set codes.old codes.new result) }
+    ensures { (slots : List Row) (o : Operation) → Moment slots o mask plan priorities.now set → StepsTo slots o set actions.old actions.new result }
 {
     let fitting = common(set, mask);
-    let met = next(fitting, 0) < 512;
-    let answer = answer_of(plan[5], met, fitting, priorities, codes);
-    let left = left_of(plan[0] == 1, set, mask);
-    assign_if(plan[0] == 2, fitting, plan[1], codes);
-    let puts = (plan[2] == 1) & !met;
-    let slot = plan[3] as usize;
-    with_code(puts, slot, plan[4], codes);
-    let held = with_slot(puts, left, slot);
+    let met = next(fitting, 0).is_some();
+    let answer = answer_of(plan.reply, met, fitting, priorities, actions);
+    let left = left_of(plan.change, set, mask);
+    assign(plan.change, fitting, actions);
+    let put = put_unless(met, plan.put);
+    with_action(put, actions);
+    let held = with_slot(put, left);
     Stepped { set: held, answer }
 }

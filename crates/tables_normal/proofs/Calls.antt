@@ -1,27 +1,28 @@
 -- Demand 2 of the normaliser's calls: in long enough buffers two of them on accepted texts return equal lengths and write equal bytes
 -- exactly if the texts hold the same entries on the same switches (`same_normal_call`). Assumes nothing.
+use Rattle.std.specs.Prelude.{Ok, Err}
 use Prim.Native.Nat.{ℕ, ◌≤◌, ◌<◌}
 use native.Mathlib.Decide.{dec_lt}
 use native.Mathlib.Omega.{arith}
 use mathlib.Core.List.{List}
-use mathlib.Core.Logic.{◌↔◌, inl, inr}
+use mathlib.Core.Logic.{◌↔◌}
 use mathlib.Core.Path.{◌≡◌, sym, ◌∙◌, ap}
 use lib.ListN.{length, take, drop}
 use lib.Seq.{take_at}
 use Rattle.refusals.specs.Checks.{written}
 use Rattle.refusals.proofs.Checks.{short_refused, short_passed, not_refused}
 use Rattle.tables_text.specs.TableText.{read_tables, HoldSame}
-use Rattle.tables_normal.specs.Types.{Refusal, Row, NormalAnswer}
+use Rattle.tables_normal.specs.Types.{Refusal, Row}
 use Rattle.tables_normal.specs.Normal.{normal_text, normalised, normal_answer}
 use Rattle.tables_normal.specs.Calls.{NormalFits, WritesNormal, SameBytes}
 use Rattle.tables_normal.proofs.Theorems.{same_normal}
 
-module _ (t : List ℕ) (rs : List Row) (p : read_tables t ≡ inr rs) where
-  whole : (room : ℕ) → length (normal_text rs) ≤ room → normalised t room ≡ inr (normal_text rs)
+module _ (t : List ℕ) (rs : List Row) (p : read_tables t ≡ Ok rs) where
+  whole : (room : ℕ) → length (normal_text rs) ≤ room → normalised t room ≡ Ok (normal_text rs)
   unfolding normalised
   whole room l = rw (p, short_passed room (normal_text rs) Refusal.TablesShort l)
 
-  short : (room : ℕ) → room < length (normal_text rs) → normalised t room ≡ inl (Refusal.TablesShort (length (normal_text rs)))
+  short : (room : ℕ) → room < length (normal_text rs) → normalised t room ≡ Err (Refusal.TablesShort (length (normal_text rs)))
   unfolding normalised
   short room l = rw (p, short_refused room (normal_text rs) Refusal.TablesShort l)
 
@@ -40,22 +41,22 @@ module _ (t : List ℕ) (rs : List Row) (p : read_tables t ≡ inr rs) where
       ]
 
 -- the text of which a call tells the length, taken from its buffer
-taken : (text tables old : List ℕ) (n : ℕ) → WritesNormal text tables old → normal_answer (normalised tables (length old)) ≡ NormalAnswer.Length n
+taken : (text tables old : List ℕ) (n : ℕ) → WritesNormal text tables old → normal_answer (normalised tables (length old)) ≡ Ok n
     → take n (written (normalised tables (length old)) old) ≡ text
 taken text tables old n w e =
-    let z : NormalAnswer.Length (length text) ≡ NormalAnswer.Length n = sym w.returned ∙ e in
+    let z : Ok (length text) ≡ Ok n = sym w.returned ∙ e in
     let size : length text ≡ n = cc in
     ap (take n) w.buffer ∙ take_at text (drop (length text) old) n size
 
 -- demand 2 for the normaliser, of its calls
-pub same_normal_call : (t u : List ℕ) (rs qs : List Row) → read_tables t ≡ inr rs → read_tables u ≡ inr qs
+pub same_normal_call : (t u : List ℕ) (rs qs : List Row) → read_tables t ≡ Ok rs → read_tables u ≡ Ok qs
     → (old new : List ℕ) → NormalFits t (length old) → NormalFits u (length new) → SameBytes t u old new ↔ HoldSame t u
 same_normal_call t u rs qs p q old new long long' = (
   λ s. (same_normal t u rs qs p q).0 (sym (taken _ t old s.size first s.first) ∙ s.bytes ∙ taken _ u new s.size second s.second),
   λ h.
       let e : normal_text rs ≡ normal_text qs = (same_normal t u rs qs p q).1 h in
       let n = length (normal_text rs) in
-      let returned : normal_answer (normalised u (length new)) ≡ NormalAnswer.Length n = second.returned ∙ ap (λ (x : List ℕ). NormalAnswer.Length (length x)) (sym e) in
+      let returned : normal_answer (normalised u (length new)) ≡ Ok n = second.returned ∙ ap (λ (x : List ℕ). Ok (length x)) (sym e) in
       record { size = n; first = first.returned; second = returned; bytes = taken _ t old n first first.returned ∙ e ∙ sym (taken _ u new n second returned) },
 )
   where

@@ -1,8 +1,8 @@
 -- The text of rows in order is the normal text of the tables that they hold (`normal_tables`), of an accepted table text too
 -- (`accepted_tables`), whose rows are of the switches 0 to 15 (`accepted_beyond`). Assumes nothing.
+use Rattle.std.specs.Prelude.{Ok}
 use Prim.Native.Nat.{ℕ, ◌≤◌}
 use mathlib.Core.List.{List, [], ◌++◌, map, map-append, map-map}
-use mathlib.Core.Logic.{inr}
 use mathlib.Core.Path.{◌≡◌, refl, ◌∙◌, ap, fun_ext}
 use Rattle.basics.specs.Searches.{gather}
 use Rattle.basics.proofs.Gathered.{gather_through}
@@ -26,7 +26,7 @@ normal_tables rs s none =
     ap normal_text (rows_gathered 16 rs s none) ∙ gather_through normal_text refl normal_append (λ w. map (row w) (table_of w rs)) 16
     ∙ ap (λ (f : ℕ → List ℕ). gather f 16) (fun_ext (λ w. ap unlines (map-map print_row (row w) (table_of w rs))))
 
-module _ (s : List ℕ) (rs : List Row) (e : read_tables s ≡ inr rs) where
+module _ (s : List ℕ) (rs : List Row) (e : read_tables s ≡ Ok rs) where
   pub accepted_beyond : (w : ℕ) → 16 ≤ w → table_of w rs ≡ []
   accepted_beyond = table_beyond 16 rs (λ r m. (accepted_range s rs e r m).switch)
 

@@ -4,11 +4,14 @@
 use Prim.Native.Nat.{ℕ, zero, suc, ◌<◌}
 use mathlib.Core.Bool.{true}
 use mathlib.Core.List.{List, [], ◌∷◌, map, Memᴰ}
-use mathlib.Core.Logic.{◌↔◌, ◌⊎◌, inl, inr}
+use mathlib.Core.Logic.{◌↔◌, ◌⊎◌, inr}
+use Rattle.std.specs.Prelude.{Some, Result, Ok, Err}
+use Rattle.std.proofs.lemmas.Option.{same_Some}
 use mathlib.Core.Option.{some, some-injective}
 use mathlib.Core.Path.{◌≡◌, refl, sym, ◌∙◌, ap, subst}
 use native.Mathlib.Omega.{arith}
-use lib.ListN.{length, get_or, get_elem?, length-append, length-map}
+use lib.ListN.{length, get_or, length-append, length-map}
+use Rattle.std.specs.List.{slice_get}
 use Rattle.text_numbers.proofs.Readers.{nothing}
 use Rattle.text_lines.specs.Lines.{lines, unlines, ends_with_lf}
 use Rattle.text_lines.specs.Inner.{newlines}
@@ -19,7 +22,7 @@ use Rattle.rows_sort.specs.Sorting.{sort_rows}
 use Rattle.rows.proofs.RowOrder.{like_slot, row_self}
 use Rattle.rows.proofs.RowLaws.{same_rows}
 use Rattle.rows_sort.proofs.SortLaws.{Twice, Outcome, sort_outcome, stands_iff}
-use Rattle.flow.specs.declared.ordering.Ordering.{Ordering}
+use Rattle.std.specs.declared.cmp.Ordering.{Ordering}
 use Rattle.tables_normal.specs.Types.{Row}
 use Rattle.tables_text.specs.TableText.{print_row, read_tables, HoldSame}
 use Rattle.tables_normal.specs.Normal.{normal_text, normalised}
@@ -42,26 +45,26 @@ normal_injective (r ∷ rs) (q ∷ qs) h k e =
 
 -- ---- the normal text is accepted
 -- rows in order are sorted already
-before_at : (x : Row) (xs : List Row) → RowBefore x xs → (k : ℕ) (y : Row) → get_elem? xs k ≡ some y → row_order x y ≡ Ordering.Less
+before_at : (x : Row) (xs : List Row) → RowBefore x xs → (k : ℕ) (y : Row) → slice_get xs k ≡ Some y → row_order x y ≡ Ordering.Less
 before_at x [] b k y e = nothing e
-before_at x (z ∷ xs) b zero y e = rw (← some-injective _ _ e) b.0
+before_at x (z ∷ xs) b zero y e = rw (← same_Some _ _ e) b.0
 before_at x (z ∷ xs) b (suc k) y e = before_at x xs b.1 k y e
 
-sorted_at : (rs : List Row) → SortedRows rs → (i k : ℕ) (x y : Row) → i < k → get_elem? rs i ≡ some x → get_elem? rs k ≡ some y → row_order x y ≡ Ordering.Less
+sorted_at : (rs : List Row) → SortedRows rs → (i k : ℕ) (x y : Row) → i < k → slice_get rs i ≡ Some x → slice_get rs k ≡ Some y → row_order x y ≡ Ordering.Less
 sorted_at [] s i k x y h p q = nothing p
 sorted_at (z ∷ rs) s i zero x y h p q = absurd (omega arith)
-sorted_at (z ∷ rs) s zero (suc k) x y h p q = rw (← some-injective _ _ p) (before_at z rs s.0 k y q)
+sorted_at (z ∷ rs) s zero (suc k) x y h p q = rw (← same_Some _ _ p) (before_at z rs s.0 k y q)
 sorted_at (z ∷ rs) s (suc i) (suc k) x y h p q = sorted_at rs s.1 i k x y (omega arith) p q
 
 never_twice : (rs : List Row) → SortedRows rs → (k : ℕ) → Twice rs k → ⊥
 never_twice rs s k (i, x, y, h, p, q, e) = equal≢less (sym (row_self y) ∙ sym (like_slot x y y e) ∙ sorted_at rs s i k x y h p q)
 
-sort_sorted : (rs : List Row) → SortedRows rs → sort_rows rs ≡ inr rs
+sort_sorted : (rs : List Row) → SortedRows rs → sort_rows rs ≡ Ok rs
 sort_sorted rs s = go (sort_rows rs) refl (sort_outcome rs)
   where
-    go : (x : ℕ ⊎ List Row) → sort_rows rs ≡ x → Outcome rs x → sort_rows rs ≡ inr rs
-    go (inl k) q o = absurd (never_twice rs s k ((stands_iff rs k).0 o.twice))
-    go (inr qs) q o = q ∙ ap inr (same_rows qs rs o.sorted s o.forth o.back)
+    go : (x : Result (List Row) ℕ) → sort_rows rs ≡ x → Outcome rs x → sort_rows rs ≡ Ok rs
+    go (Err k) q o = absurd (never_twice rs s k ((stands_iff rs k).0 o.twice))
+    go (Ok qs) q o = q ∙ ap Ok (same_rows qs rs o.sorted s o.forth o.back)
 
 -- no row's text has an LF in it
 plain_at : (rs : List Row) → ((r : Row) → Memᴰ r rs → newlines (print_row r) ≡ 0) → (k : ℕ) → newlines (get_or (map print_row rs) k []) ≡ 0
@@ -70,12 +73,12 @@ plain_at [] h k = refl
 plain_at (r ∷ rs) h zero = h r (Memᴰ.head refl)
 plain_at (r ∷ rs) h (suc k) = plain_at rs (λ x m. h x (Memᴰ.tail m)) k
 
-get_d_at : (ls : List (List ℕ)) (k : ℕ) (l : List ℕ) → get_elem? ls k ≡ some l → get_or ls k [] ≡ l
+get_d_at : (ls : List (List ℕ)) (k : ℕ) (l : List ℕ) → slice_get ls k ≡ Some l → get_or ls k [] ≡ l
 get_d_at [] k l e = nothing e
-get_d_at (x ∷ ls) zero l e = some-injective _ _ e
+get_d_at (x ∷ ls) zero l e = same_Some _ _ e
 get_d_at (x ∷ ls) (suc k) l e = get_d_at ls k l e
 
-module _ (s : List ℕ) (rs : List Row) (e : read_tables s ≡ inr rs) where
+module _ (s : List ℕ) (rs : List Row) (e : read_tables s ≡ Ok rs) where
   plain : (r : Row) → Memᴰ r rs → newlines (print_row r) ≡ 0
   plain r m =
       let (k, w) = (accepted_holds s rs e r).1 m in
@@ -90,7 +93,7 @@ module _ (s : List ℕ) (rs : List Row) (e : read_tables s ≡ inr rs) where
   normal_ends = unlines_ends (map print_row rs)
 
   -- the normal text of an accepted text is accepted, with the same rows
-  pub normal_accepted : read_tables (normal_text rs) ≡ inr rs
+  pub normal_accepted : read_tables (normal_text rs) ≡ Ok rs
   normal_accepted = accepting (normal_text rs) rs (record {
     within = record {
       bytes = omega (arith, normal_most rs (accepted_range s rs e), accepted_length s rs e);
@@ -115,7 +118,7 @@ module _ (s : List ℕ) (rs : List Row) (e : read_tables s ≡ inr rs) where
   )
 
 -- ---- demand 2 for the normaliser: two accepted texts have equal normal bytes just where they hold the same entries on the same switches
-module _ (s t : List ℕ) (rs qs : List Row) (p : read_tables s ≡ inr rs) (q : read_tables t ≡ inr qs) where
+module _ (s t : List ℕ) (rs qs : List Row) (p : read_tables s ≡ Ok rs) (q : read_tables t ≡ Ok qs) where
   pub same_normal : (normal_text rs ≡ normal_text qs) ↔ HoldSame s t
   same_normal = (to, from)
     where

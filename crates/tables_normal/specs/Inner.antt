@@ -1,7 +1,6 @@
 -- Inner: what the functions of this crate work with.
-use Rattle.std.specs.Prelude.{ℕ, ◌≤◌, ◌≡◌}
+use Rattle.std.specs.Prelude.{ℕ, ◌≤◌, ◌≡◌, Ok}
 use mathlib.Core.List.{List, Memᴰ}
-use Rattle.std.proofs.Common.{inr}
 use Rattle.refusals.specs.Checks.{Checked, ◌▹◌, refuse_short}
 use Rattle.tables_text.specs.TableText.{RowInRange}
 use Rattle.tables_normal.specs.Types.{Refusal, Row}
@@ -9,14 +8,8 @@ use Rattle.tables_normal.specs.Normal.{normal_text}
 
 -- 32; then the text of the rows
 abbrev pub fitting_text : ℕ → List Row → Checked (List ℕ)
-fitting_text room rs = refuse_short room (normal_text rs) Refusal.TablesShort ▹ λ _. inr (normal_text rs)
+fitting_text room rs = refuse_short room (normal_text rs) Refusal.TablesShort ▹ λ _. Ok (normal_text rs)
 
 -- every row is in range, as those of an accepted text are
 abbrev pub RowsInRange : List Row → Type 0
 RowsInRange rs = (r : Row) → Memᴰ r rs → RowInRange r
-
--- the place `at` of a buffer of that length; its end where `at` lies past it
-pub record PlaceIn (at size r : ℕ) : Type 0 where
-  pub within : r ≤ size
-  pub here : at ≤ size → r ≡ at
-  pub past : size ≤ at → r ≡ size

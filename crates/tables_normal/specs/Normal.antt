@@ -1,13 +1,12 @@
 -- Document 01, "Tables and replay": the normal form of a table text, and what the normaliser answers.
-use Rattle.std.specs.Prelude.{ℕ, List, map, length}
-use Rattle.std.proofs.Common.{inl, inr}
+use Rattle.std.specs.Prelude.{ℕ, List, map, length, Ok}
 use Rattle.basics.specs.Searches.{gather}
 use Rattle.text_lines.specs.Lines.{unlines}
 use Rattle.flow_table.specs.Switches.{Tables}
 use Rattle.rows.specs.Rows.{row}
 use Rattle.refusals.specs.Checks.{Checked, ◌▹◌, refuse_short}
 use Rattle.tables_text.specs.TableText.{print_row, read_tables}
-use Rattle.tables_normal.specs.Types.{Refusal, Row, NormalAnswer}
+use Rattle.tables_normal.specs.Types.{Refusal, Row}
 
 -- the text of rows: a line for each, ended by LF
 unfoldable pub normal_text : List Row → List ℕ
@@ -22,9 +21,8 @@ unfoldable pub normalised : List ℕ → ℕ → Checked (List ℕ)
 normalised tables room =
     read_tables tables ▹ λ rs.
     refuse_short room (normal_text rs) Refusal.TablesShort ▹ λ _.
-    inr (normal_text rs)
+    Ok (normal_text rs)
 
 -- what is returned: the text's length, or the refusal
-abbrev pub normal_answer : Checked (List ℕ) → NormalAnswer
-normal_answer (inl r) = NormalAnswer.Refused r
-normal_answer (inr text) = NormalAnswer.Length (length text)
+abbrev pub normal_answer : Checked (List ℕ) → Checked ℕ
+normal_answer y = y ▹ λ text. Ok (length text)

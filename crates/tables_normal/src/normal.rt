@@ -6,40 +6,34 @@ ghost use Rattle.tables_normal.specs.Normal.{normalised, normal_answer};
 ghost use Rattle.tables_normal.specs.Inner.{fitting_text, RowsInRange};
 
 use crate::write::{normal_length, write_normal};
-use call_answers::NormalAnswer;
-use refusals::{Outcome, Refusal};
+use refusals::Refusal;
 use rows::Rows;
 use tables_text::read_tables;
 
 // The text of the rows, at the front of an output that has room for it.
-fn put_normal(out: &mut [u8], rows: Rows) -> NormalAnswer
-    requires { (rows.len ≤ 512) × RowsInRange (rows_of rows) }
+fn put_normal(out: &mut [u8], rows: Rows) -> Result<usize, Refusal>
+    requires few { rows.len ≤ 512 }
+    requires range { RowsInRange (rows_of rows) }
     ensures value { result ≡ normal_answer (fitting_text (length out.old) (rows_of rows)) }
     ensures out_after { out.new ≡ written (fitting_text (length out.old) (rows_of rows)) out.old }
 {
     // A line has at most 115 bytes: where each row has that room the text fits, and is not counted first.
     if 115 * rows.len <= out.len() {
-        let n = write_normal(out, rows);
-        return NormalAnswer::Length(n);
+        return Ok(write_normal(out, rows));
     }
     let needed = normal_length(rows);
     if out.len() < needed {
-        return NormalAnswer::Refused(Refusal::TablesShort(needed));
+        return Err(Refusal::TablesShort(needed));
     }
-    let n = write_normal(out, rows);
-    NormalAnswer::Length(n)
+    Ok(write_normal(out, rows))
 }
 
 // The normal form of a table text, at the front of the output. The bytes past it, or all after a refusal, stay as they were.
-pub fn normalise(tables: &[u8], out: &mut [u8]) -> NormalAnswer
+#[tactic(auto, unfolding(crate::specs::Normal::normalised))]
+pub fn normalise(tables: &[u8], out: &mut [u8]) -> Result<usize, Refusal>
     ensures value { result ≡ normal_answer (normalised tables.now (length out.old)) }
     ensures out_after { out.new ≡ written (normalised tables.now (length out.old)) out.old }
 {
-    let read = read_tables(tables);
-    let outcome = read.outcome;
-    let rows = read.rows;
-    match outcome {
-        Outcome::Refused(e) => NormalAnswer::Refused(e),
-        Outcome::Accepted => put_normal(out, rows),
-    }
+    let rows = read_tables(tables)?;
+    put_normal(out, rows)
 }

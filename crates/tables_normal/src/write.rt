@@ -4,7 +4,6 @@ ghost use Rattle.text_numbers.specs.Inner.{Put};
 ghost use Rattle.rows.specs.Rows.{rows_of};
 ghost use Rattle.tables_text.specs.TableText.{print_row};
 ghost use Rattle.tables_normal.specs.Normal.{normal_text};
-ghost use Rattle.tables_normal.specs.Inner.{PlaceIn};
 
 use rows::{Row, Rows};
 use text_numbers::{put_bytes, put_number};
@@ -14,18 +13,10 @@ use text_put_fields::put_entry;
 fn put_row(rest: &mut [u8], row: Row) -> usize
     ensures { Put (print_row row ++ (10 ∷ [])) 0 rest.old result rest.new }
 {
-    let entry = row.entry;
     let a = put_bytes(rest, 0, b"sw=");
     let b = put_number(rest, a, row.switch as usize);
-    let c = put_entry(rest, b, entry);
+    let c = put_entry(rest, b, row.entry);
     put_bytes(rest, c, b"\n")
-}
-
-// A place of a buffer of that length; its end for all that lie past it.
-fn place_in(at: usize, len: usize) -> usize
-    ensures { PlaceIn at len result }
-{
-    if at < len { at } else { len }
 }
 
 // The lines of the rows, each written into the rest of the output. What lies past the output's end is dropped and counts all the same.
@@ -33,15 +24,11 @@ pub fn write_normal(out: &mut [u8], rows: Rows) -> usize
     requires { rows.len ≤ 512 }
     ensures { Put (normal_text (rows_of rows)) 0 out.old result out.new }
 {
-    let n = rows.len;
     let mut at: usize = 0;
-    let mut i: usize = 0;
-    while i < n {
-        let row = rows.rows[i];
-        let from = place_in(at, out.len());
-        let more = put_row(&mut out[from..], row);
-        at = at + more;
-        i += 1;
+    for row in &rows.rows[..rows.len] {
+        let from = at.min(out.len());
+        let more = put_row(&mut out[from..], *row);
+        at += more;
     }
     at
 }

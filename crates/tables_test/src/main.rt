@@ -2,7 +2,7 @@
 // What must come out is in the file `stdout`.
 #![tactic(auto)]
 
-use call_answers::NormalAnswer;
+use refusals::Refusal;
 use std::rt::Files;
 
 // The numbered files: 00 to 03 the same rules in four orders; 04 no line, 05 one, 06 256 lines; 07 to 14 refusals 13, 16, 11, 12 and 14
@@ -10,12 +10,12 @@ use std::rt::Files;
 const CASES: u8 = 42;
 
 // An answer: the normal text, or the refusal.
-fn answer<R: Print + Eprint>(rt: &R, tables: &[u8], a: NormalAnswer, out: &[u8]) {
+fn answer<R: Print + Eprint>(rt: &R, tables: &[u8], a: Result<usize, Refusal>, out: &[u8]) {
     match a {
-        NormalAnswer::Length(n) => {
+        Ok(n) => {
             program_output::write(rt, text_lines::front(out, n));
         }
-        NormalAnswer::Refused(e) => {
+        Err(e) => {
             program_output::write_refused(rt, b"", tables, e);
         }
     }
@@ -36,22 +36,16 @@ fn normalise_within<R: Print + Eprint>(rt: &R, tables: &[u8], out: &mut [u8], ro
 // Into an output with room for all, and then into one that is a byte too short for an accepted text.
 fn normalise_twice<R: Print + Eprint>(rt: &R, tables: &[u8], out: &mut [u8]) {
     normalise_into(rt, tables, out);
-    let a = tables_normal::normalise(tables, out);
-    match a {
-        NormalAnswer::Length(n) => {
-            if 0 < n {
-                normalise_within(rt, tables, out, n - 1);
-            }
+    if let Ok(n) = tables_normal::normalise(tables, out) {
+        if 0 < n {
+            normalise_within(rt, tables, out, n - 1);
         }
-        NormalAnswer::Refused(_) => {}
     }
 }
 
 fn read_file<R: Files + Print + Eprint>(rt: &R, path: &[u8]) {
     let mut buf = [0u8; 65536];
-    let input = program_input::read_file(rt, path, &mut buf);
-    if input.ok {
-        let n = input.len;
+    if let Some(n) = program_input::read_file(rt, path, &mut buf) {
         let mut out = [0u8; 65536];
         normalise_twice(rt, &buf[..n], &mut out);
     }

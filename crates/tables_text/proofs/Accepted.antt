@@ -1,14 +1,16 @@
 -- What an accepted table text holds.
+use Rattle.std.specs.Prelude.{Ok, Err, Option, None, Some}
 use Prim.Native.Nat.{ℕ, ◌+◌, ◌≤◌}
 use mathlib.Core.Bool.{Bool, true, false, cond}
 use mathlib.Core.List.Memᴰ
 use mathlib.Core.List.{List, [], ◌∷◌, Memᴰ}
-use mathlib.Core.Logic.{◌↔◌, inl, inr, ⊎_elim}
+use mathlib.Core.Logic.{◌↔◌, ⊎_elim}
 use mathlib.Core.Path.{◌≡◌, refl, ap}
 use native.Mathlib.Omega.{arith}
 use borrow.Author.Tests.{eqb-true, eqb-false}
 use lib.Dec.{eqb}
 use lib.ListN.{length}
+use Rattle.std.specs.Prelude.{Ok}
 use Rattle.text_numbers.proofs.Readers.{on_cond}
 use Rattle.text_reader.proofs.Each.{refuses}
 use Rattle.refusals.specs.Checks.{Checked, ◌▹◌, refuse_limit}
@@ -34,36 +36,36 @@ pub record Accepted (s : List ℕ) (rs : List Row) : Type 0 where
   pub within : Within s
   pub each : List Row
   pub read : ReadAs 0 (lines s) each
-  pub order : sort_rows each ≡ inr rs
+  pub order : sort_rows each ≡ Ok rs
 
-pub accepted : (s : List ℕ) (rs : List Row) → read_tables s ≡ inr rs → Accepted s rs
+pub accepted : (s : List ℕ) (rs : List Row) → read_tables s ≡ Ok rs → Accepted s rs
 unfolding read_tables
 accepted s rs e = go (limit_of s) refl e
   where
-    lines_as : Within s → (x : Checked (List Row)) → read_rows s ≡ x → (x ▹ sorted_rows) ≡ inr rs → Accepted s rs
-    lines_as w (inl f) p q = refuses q
-    lines_as w (inr ls) p q = record { within = w; each = ls; read = read_as 0 (lines s) ls p; order = checked_order ls rs q }
+    lines_as : Within s → (x : Checked (List Row)) → read_rows s ≡ x → (x ▹ sorted_rows) ≡ Ok rs → Accepted s rs
+    lines_as w (Err f) p q = refuses q
+    lines_as w (Ok ls) p q = record { within = w; each = ls; read = read_as 0 (lines s) ls p; order = checked_order ls rs q }
 
-    go : (x : Limit) → limit_of s ≡ x
-        → (refuse_limit x Refusal.TablesTooLong Refusal.TablesUnended Refusal.TablesTooManyLines ▹ λ _. read_rows s ▹ sorted_rows) ≡ inr rs → Accepted s rs
-    go Limit.TooLong p q = refuses q
-    go Limit.Unended p q = refuses q
-    go Limit.TooManyLines p q = refuses q
-    go Limit.Kept p q = lines_as (limit_within s p) (read_rows s) refl q
+    go : (x : Option Limit) → limit_of s ≡ x
+        → (refuse_limit x Refusal.TablesTooLong Refusal.TablesUnended Refusal.TablesTooManyLines ▹ λ _. read_rows s ▹ sorted_rows) ≡ Ok rs → Accepted s rs
+    go (Some Limit.TooLong) p q = refuses q
+    go (Some Limit.Unended) p q = refuses q
+    go (Some Limit.TooManyLines) p q = refuses q
+    go None p q = lines_as (limit_within s p) (read_rows s) refl q
 
-pub accepting : (s : List ℕ) (rs : List Row) → Accepted s rs → read_tables s ≡ inr rs
+pub accepting : (s : List ℕ) (rs : List Row) → Accepted s rs → read_tables s ≡ Ok rs
 unfolding read_tables
 accepting s rs a = rw (within_limit s a.within, as_read 0 (lines s) a.each a.read) (order_checked a.each rs a.order)
 
 -- ---- what holds of an accepted text and its rows
-sort_length : (k : ℕ) (earlier ls rs : List Row) → sort_from k earlier ls ≡ inr rs → length rs ≤ length earlier + length ls
+sort_length : (k : ℕ) (earlier ls rs : List Row) → sort_from k earlier ls ≡ Ok rs → length rs ≤ length earlier + length ls
 unfolding sort_from
 sort_length k earlier [] rs e = let h : earlier ≡ rs = cc in rw h (omega arith)
 sort_length k earlier (x ∷ ls) rs e =
-    on_cond (any_row (same_slot x) earlier) (λ t p. refuses p)
+    on_cond (any_row (same_slot x) earlier) (λ t p. cc)
     (λ t p. omega (arith, sort_length (k + 1) (insert_row x earlier) ls rs p, length_insert x earlier)) e
 
-sorted_length : (ls rs : List Row) → sort_rows ls ≡ inr rs → length rs ≤ length ls
+sorted_length : (ls rs : List Row) → sort_rows ls ≡ Ok rs → length rs ≤ length ls
 unfolding sort_rows
 sorted_length ls rs e = omega (arith, sort_length 0 [] ls rs e)
 
@@ -83,7 +85,7 @@ table_mem w (x ∷ xs) f = go (eqb w x.switch) refl (table_mem w xs f)
       λ m. ⊎_elim (λ e. absurd (eqb-false w x.switch q (ap (λ (z : Row). z.switch) e))) ih.1 (Memᴰ.cases_cons m),
     )
 
-module _ (s : List ℕ) (rs : List Row) (e : read_tables s ≡ inr rs) where
+module _ (s : List ℕ) (rs : List Row) (e : read_tables s ≡ Ok rs) where
   all : Accepted s rs
   all = accepted s rs e
 

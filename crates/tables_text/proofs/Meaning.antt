@@ -1,8 +1,9 @@
 -- Which table texts are accepted, and as which rows: exactly those that `IsTables` describes. Assumes nothing.
+use Rattle.std.specs.Prelude.{Ok}
 use Prim.Native.Nat.{ℕ, ◌+◌}
 use mathlib.Core.Bool.{true, false, true≢false}
 use mathlib.Core.List.{List, [], ◌∷◌, map}
-use mathlib.Core.Logic.{◌↔◌, inr}
+use mathlib.Core.Logic.{◌↔◌}
 use mathlib.Core.Path.{◌≡◌, refl, ap, ◌∙◌}
 use native.Mathlib.Omega.{arith}
 use lib.ListN.{length-map}
@@ -60,5 +61,5 @@ tables_reads s rs t = record {
 }
 
 -- a text is accepted as these rows exactly if it is a text of them
-pub tables_accepted_iff : (s : List ℕ) (rs : List Row) → (read_tables s ≡ inr rs) ↔ IsTables s rs
+pub tables_accepted_iff : (s : List ℕ) (rs : List Row) → (read_tables s ≡ Ok rs) ↔ IsTables s rs
 tables_accepted_iff s rs = (λ e. tables_only s rs (accepted s rs e), λ t. accepting s rs (tables_reads s rs t))

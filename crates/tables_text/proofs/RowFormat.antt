@@ -3,7 +3,8 @@ use Prim.Native.Nat.{ℕ}
 use mathlib.Core.Bool.{true}
 use mathlib.Core.List.{List, ◌∷◌, ◌++◌}
 use mathlib.Core.Logic.{◌↔◌}
-use mathlib.Core.Option.{Option, none, some, some-injective}
+use Rattle.std.specs.Prelude.{Option, None, Some}
+use Rattle.std.proofs.lemmas.Option.{same_Some}
 use mathlib.Core.Path.{◌≡◌, refl, ◌∙◌, ap}
 use native.Mathlib.Omega.{arith}
 use borrow.Author.Tests.{eq-eqb, eqb-true}
@@ -26,18 +27,18 @@ reader_format =
     (λ r o. ((omega arith, o.entry), refl)) (λ f o. (record { switch = omega arith; entry = o.1 }, refl))
     (both_format entry_follows (keyed_format (bytes "sw=") (number_format 15 (omega arith))) entry_format)
 
-whole_only : (n : ℕ) (r : Row) (o : Option (Row × ℕ)) → whole_row n o ≡ some r → o ≡ some (r, n)
-whole_only n r none e = nothing e
-whole_only n r (some p) e =
+whole_only : (n : ℕ) (r : Row) (o : Option (Row × ℕ)) → whole_row n o ≡ Some r → o ≡ Some (r, n)
+whole_only n r None e = nothing e
+whole_only n r (Some p) e =
     on_cond (eqb p.1 n)
-    (λ t q. ap some (λ i. (some-injective p.0 r q i, eqb-true p.1 n t i)))
+    (λ t q. ap Some (λ i. (same_Some p.0 r q i, eqb-true p.1 n t i)))
     (λ t q. nothing q) e
 
-whole_some : (n : ℕ) (r : Row) (o : Option (Row × ℕ)) → o ≡ some (r, n) → whole_row n o ≡ some r
+whole_some : (n : ℕ) (r : Row) (o : Option (Row × ℕ)) → o ≡ Some (r, n) → whole_row n o ≡ Some r
 whole_some n r o e = ap (whole_row n) e ∙ rw (eq-eqb n n refl)
 
 -- a line reads as a row just where it is that row's text, with each value in its range
-pub row_format : (l : List ℕ) (r : Row) → (read_row l ≡ some r) ↔ (RowWritten r × (l ≡ print_row r))
+pub row_format : (l : List ℕ) (r : Row) → (read_row l ≡ Some r) ↔ (RowWritten r × (l ≡ print_row r))
 unfolding read_row
 row_format l r = (
   λ e. (whole reader_format l r).0 (whole_only (length l) r (row_reader l 0) e),

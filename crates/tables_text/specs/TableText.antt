@@ -1,9 +1,7 @@
 -- Document 01, "Tables and replay" and "Refusal table": a table text, and what is read from it. That `read_row` reads the texts of
 -- `print_row` and no others is proved in proofs/RowFormat.antt.
-use Rattle.std.specs.Prelude.{ℕ, ◌<◌, cond, not, List, [], ◌∷◌, ◌++◌, ◌↔◌, ◌≡◌, eqb, length}
-use Rattle.std.proofs.Common.{inr}
-use Rattle.std.proofs.Math.Option.{Option, none, some}
-use Rattle.std.proofs.Math.ListN.{get_elem?}
+use Rattle.std.specs.Prelude.{ℕ, ◌<◌, cond, not, List, [], ◌∷◌, ◌++◌, ◌↔◌, ◌≡◌, eqb, length, Option, None, Some, Ok}
+use Rattle.std.specs.List.{slice_get}
 use Rattle.basics.specs.Text.{bytes}
 use Rattle.basics.specs.Searches.{lowest}
 use Rattle.text_lines.specs.Lines.{lines}
@@ -31,8 +29,8 @@ row_reader = mapped (λ (w, e). row w e) (both (keyed (bytes "sw=") (read_number
 
 -- a row that takes all n bytes of its line
 abbrev pub whole_row : ℕ → Option (Row × ℕ) → Option Row
-whole_row n none = none
-whole_row n (some r) = cond (eqb r.1 n) (some r.0) none
+whole_row n None = None
+whole_row n (Some r) = cond (eqb r.1 n) (Some r.0) None
 
 -- the row of a whole line, without its LF
 unfoldable pub read_row : List ℕ → Option Row
@@ -53,7 +51,7 @@ unfoldable pub read_row_line : ℕ → List ℕ → Checked Row
 read_row_line k l =
     refuse_none (read_row l) (Refusal.TablesMalformed k) ▹ λ r.
     refuse_if (not (clear_entry r.entry)) (Refusal.TablesAddressBit k) ▹ λ _.
-    inr r
+    Ok r
 
 -- ---- a text
 -- the lowest line whose switch and key stand on an earlier one
@@ -74,12 +72,12 @@ read_tables s =
     refuse_limit (limit_of s) Refusal.TablesTooLong Refusal.TablesUnended Refusal.TablesTooManyLines ▹ λ _.
     read_each read_row_line 0 (lines s) ▹ λ rs.
     refuse_at (first_twice rs) Refusal.KeyTwice ▹ λ _.
-    inr (in_order rs)
+    Ok (in_order rs)
 
 -- ---- what two texts hold
 -- the row stands on line k
 abbrev pub OnLine : List ℕ → ℕ → Row → Type 0
-OnLine s k r = (l : List ℕ) × (get_elem? (lines s) k ≡ some l) × (read_row l ≡ some r)
+OnLine s k r = (l : List ℕ) × (slice_get (lines s) k ≡ Some l) × (read_row l ≡ Some r)
 
 -- the row stands on a line of the text
 abbrev pub Holds : List ℕ → Row → Type 0

@@ -1,9 +1,6 @@
 -- The types that this crate's definitions speak of, under one name each.
 pub use Rattle.flow.specs.declared.entry.Entry.{Entry}
 pub use Rattle.refusals.specs.declared.refusal.Refusal.{Refusal}
-pub use Rattle.refusals.specs.declared.refusal.Outcome.{Outcome}
 pub use Rattle.rows.specs.declared.row.Row.{Row}
 pub use Rattle.rows.specs.declared.row.Rows.{Rows}
 pub use Rattle.text_lines.specs.declared.limits.Limit.{Limit}
-pub use Rattle.tables_text.specs.declared.line.RowRead.{RowRead}
-pub use Rattle.tables_text.specs.declared.read.TablesRead.{TablesRead}

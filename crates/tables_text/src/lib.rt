@@ -5,5 +5,5 @@ pub mod line; // a line as a row
 pub mod read; // a text as sorted rows
 mod store; // rows before the first is read
 
-pub use line::{RowRead, row_line};
-pub use read::{TablesRead, read_tables};
+pub use line::row_line;
+pub use read::read_tables;

@@ -1,46 +1,30 @@
 // A line of a table text as a row.
 ghost use Rattle.std.specs.Prelude.{◌≡◌};
 ghost use Rattle.tables_text.specs.TableText.{read_row_line};
-ghost use Rattle.tables_text.specs.Inner.{as_row};
 
 use refusals::Refusal;
 use rows::Row;
-use text_fields::{EntryRead, entry_at};
-use text_numbers::{Number, number_at};
-
-// A line's row, or why the line is refused.
-#[derive(Clone, Copy)]
-pub enum RowRead {
-    Read(Row),
-    Refused(Refusal),
-}
+use text_fields::entry_at;
+use text_numbers::number_at;
 
 // The row of a whole line, which has that number.
-pub fn row_line(s: &[u8], line: usize) -> RowRead
-    ensures { as_row result ≡ read_row_line line s.now }
+#[tactic(auto, unfolding(crate::specs::TableText::read_row_line, crate::specs::TableText::read_row, crate::specs::TableText::row_reader, text_numbers::specs::Reading::both, text_numbers::specs::Reading::and_then, text_numbers::specs::Reading::mapped))]
+pub fn row_line(s: &[u8], line: usize) -> Result<Row, Refusal>
+    ensures { result ≡ read_row_line line s.now }
 {
     let malformed = Refusal::TablesMalformed(line);
-    let Number::Read {
-        value: switch,
-        next,
-    } = number_at(s, 0, b"sw=", 15)
-    else {
-        return RowRead::Refused(malformed);
+    let Some((switch, next)) = number_at(s, 0, b"sw=", 15) else {
+        return Err(malformed);
     };
-    let EntryRead::Read { value: entry, next } = entry_at(s, next, malformed) else {
-        return RowRead::Refused(malformed);
-    };
+    let (entry, next) = entry_at(s, next, malformed)?;
     if next != s.len() {
-        return RowRead::Refused(malformed);
+        return Err(malformed);
     }
-    let row = Row {
+    if !entry.key.pattern.is_clear() {
+        return Err(Refusal::TablesAddressBit(line));
+    }
+    Ok(Row {
         switch: switch as u8,
         entry,
-    };
-    let key = entry.key;
-    let pattern = key.pattern;
-    if pattern.is_clear() {
-        return RowRead::Read(row);
-    }
-    RowRead::Refused(Refusal::TablesAddressBit(line))
+    })
 }

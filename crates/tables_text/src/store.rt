@@ -13,24 +13,26 @@ pub fn no_rows() -> Rows
         value: 0,
         length: 0,
     };
-    let pattern = Match {
-        port: Exact::Any,
-        vlan: Exact::Any,
-        src: all,
-        dst: all,
-        proto: Exact::Any,
-        sport: Exact::Any,
-        dport: Exact::Any,
+    let unused = Row {
+        switch: 0,
+        entry: Entry {
+            key: Key {
+                priority: 0,
+                pattern: Match {
+                    port: Exact::Any,
+                    vlan: Exact::Any,
+                    src: all,
+                    dst: all,
+                    proto: Exact::Any,
+                    sport: Exact::Any,
+                    dport: Exact::Any,
+                },
+            },
+            action: Action::Drop,
+        },
     };
-    let key = Key {
-        priority: 0,
-        pattern,
-    };
-    let entry = Entry {
-        key,
-        action: Action::Drop,
-    };
-    let unused = Row { switch: 0, entry };
-    let rows = [unused; 512];
-    Rows { rows, len: 0 }
+    Rows {
+        rows: [unused; 512],
+        len: 0,
+    }
 }

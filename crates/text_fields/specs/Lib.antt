@@ -2,4 +2,3 @@ pub mod Types
 pub mod Print
 pub mod Read
 pub mod Written
-pub mod Inner

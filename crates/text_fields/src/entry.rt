@@ -5,100 +5,54 @@ ghost use Rattle.basics.specs.Text.{bytes};
 ghost use Rattle.refusals.specs.Checks.{refuse_none};
 ghost use Rattle.text_numbers.specs.Reading.{keyed};
 ghost use Rattle.text_fields.specs.Read.{read_action, read_key, read_entry};
-ghost use Rattle.text_fields.specs.Inner.{as_action, as_key, as_entry};
 
-use crate::matching::{MatchRead, match_at};
+use crate::matching::match_at;
 use flow::{Action, Entry, Key};
 use refusals::Refusal;
-use text_numbers::{Number, number_at, starts_with};
-
-// An action that was read and the place after it, or no action.
-#[derive(Clone, Copy)]
-pub enum ActionRead {
-    Read { value: Action, next: usize },
-    Bad,
-}
-
-// A key that was read and the place after it, or the refusal of the line.
-#[derive(Clone, Copy)]
-pub enum KeyRead {
-    Read { value: Key, next: usize },
-    Refused(Refusal),
-}
-
-// An entry that was read and the place after it, or the refusal of the line.
-#[derive(Clone, Copy)]
-pub enum EntryRead {
-    Read { value: Entry, next: usize },
-    Refused(Refusal),
-}
+use text_numbers::{keyed, number_at, word};
 
 // `drop`, `ctl` or `pN`.
-fn read_action(s: &[u8], at: usize) -> ActionRead
-    ensures { as_action result ≡ read_action s.now at }
+#[tactic(auto, unfolding(crate::specs::Read::read_action, text_numbers::specs::Reading::word_or, text_numbers::specs::Reading::mapped))]
+fn read_action(s: &[u8], at: usize) -> Option<(Action, usize)>
+    ensures { result ≡ read_action s.now at }
 {
-    if starts_with(s, at, b"drop") {
-        return ActionRead::Read {
-            value: Action::Drop,
-            next: at + 4,
-        };
-    }
-    if starts_with(s, at, b"ctl") {
-        return ActionRead::Read {
-            value: Action::Controller,
-            next: at + 3,
-        };
-    }
-    let Number::Read { value, next } = number_at(s, at, b"p", 65535) else {
-        return ActionRead::Bad;
-    };
-    ActionRead::Read {
-        value: Action::Port(value),
-        next,
-    }
+    word(s, at, b"drop", Action::Drop)
+        .or_else(|| word(s, at, b"ctl", Action::Controller))
+        .or_else(|| number_at(s, at, b"p", 65535).map(|(n, next)| (Action::Port(n), next)))
 }
 
 // ` act=`, and then an action.
-pub fn action_at(s: &[u8], at: usize) -> ActionRead
-    ensures { as_action result ≡ keyed (bytes " act=") read_action s.now at }
+pub fn action_at(s: &[u8], at: usize) -> Option<(Action, usize)>
+    ensures { result ≡ keyed (bytes " act=") read_action s.now at }
 {
-    if starts_with(s, at, b" act=") {
-        return read_action(s, at + 5);
-    }
-    ActionRead::Bad
+    keyed(s, at, b" act=", |next| read_action(s, next))
 }
 
 // Priority, then match.
-pub fn key_at(s: &[u8], at: usize, malformed: Refusal) -> KeyRead
-    ensures { as_key result ≡ refuse_none (read_key s.now at) malformed }
+#[tactic(auto, unfolding(crate::specs::Read::read_key, text_numbers::specs::Reading::both, text_numbers::specs::Reading::and_then, text_numbers::specs::Reading::mapped))]
+pub fn key_at(s: &[u8], at: usize, malformed: Refusal) -> Result<(Key, usize), Refusal>
+    ensures { result ≡ refuse_none (read_key s.now at) malformed }
 {
-    let Number::Read { value: n, next } = number_at(s, at, b" prio=", 65535) else {
-        return KeyRead::Refused(malformed);
+    let Some((n, next)) = number_at(s, at, b" prio=", 65535) else {
+        return Err(malformed);
     };
-    let MatchRead::Read { value: m, next } = match_at(s, next, malformed) else {
-        return KeyRead::Refused(malformed);
-    };
+    let (m, next) = match_at(s, next, malformed)?;
     let value = Key {
         priority: n,
         pattern: m,
     };
-    KeyRead::Read { value, next }
+    Ok((value, next))
 }
 
 // Key, then action.
-pub fn entry_at(s: &[u8], at: usize, malformed: Refusal) -> EntryRead
-    ensures { as_entry result ≡ refuse_none (read_entry s.now at) malformed }
+#[tactic(auto, unfolding(crate::specs::Read::read_entry, text_numbers::specs::Reading::both, text_numbers::specs::Reading::and_then, text_numbers::specs::Reading::mapped))]
+pub fn entry_at(s: &[u8], at: usize, malformed: Refusal) -> Result<(Entry, usize), Refusal>
+    ensures { result ≡ refuse_none (read_entry s.now at) malformed }
 {
-    let KeyRead::Read { value: key, next } = key_at(s, at, malformed) else {
-        return EntryRead::Refused(malformed);
-    };
-    let ActionRead::Read {
-        value: action,
-        next,
-    } = action_at(s, next)
-    else {
-        return EntryRead::Refused(malformed);
+    let (key, next) = key_at(s, at, malformed)?;
+    let Some((action, next)) = action_at(s, next) else {
+        return Err(malformed);
     };
     let value = Entry { key, action };
-    EntryRead::Read { value, next }
+    Ok((value, next))
 }

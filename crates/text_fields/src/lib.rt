@@ -5,5 +5,5 @@ pub mod entry; // a priority, an action, a key, an entry
 pub mod field; // `*` or a number; a prefix
 pub mod matching; // the fields of a match and of a packet
 
-pub use entry::{EntryRead, KeyRead, entry_at, key_at};
-pub use matching::{MatchRead, PacketRead, match_at, packet_at};
+pub use entry::{entry_at, key_at};
+pub use matching::{match_at, packet_at};

@@ -9,43 +9,42 @@ use native.Mathlib.Omega.{arith}
 use borrow.Author.Tests.{eq-eqb, ne_eqb}
 use lib.Dec.{eqb}
 use lib.ListN.{length, get_or, take, drop, drop_of_length-le, length-append, length-drop}
-use lib.Seq.{drop-cons, drop-drop, take-nil, length-take-le}
+use Rattle.std.specs.List.{AllWithin, HoldsAt, count_by}
+use Rattle.std.proofs.Common.{Option}
+use Rattle.std.specs.Option.{MatchOption, unwrap_or}
+use Rattle.std.proofs.lemmas.List.Recursion.{is_count_by}
+use Rattle.std.proofs.lemmas.Iterator.{index_from_first}
+use lib.Seq.{drop-drop, take-nil, length-take-le}
 use Rattle.text_lines.specs.Lines.{lines, unlines, line_start}
 use Rattle.text_lines.specs.Inner.{line_length, first_line, newlines}
 use Rattle.text_lines.proofs.Lines.{lines_cons}
 
--- the length of the first line, from the place i on
-module _ (s : List ℕ) (i : ℕ) where
-  pub length_end : length s ≤ i → i + line_length (drop i s) ≡ i
+-- ---- the definitions as std's words
+module _ (b : ℕ) (s : List ℕ) where
+  pub length_here : b ≡ 10 → line_length (b ∷ s) ≡ 0
   unfolding line_length
-  length_end h = rw (drop_of_length-le s, add-zero)
+  length_here e = rw (eq-eqb _ _ e)
 
-  module _ (h : i < length s) where
-    pub length_here : get_or s i 0 ≡ 10 → i + line_length (drop i s) ≡ i
-    unfolding line_length
-    length_here e = rw (drop-cons s i 0, eq-eqb _ _ e, add-zero)
+  pub length_on : (b ≡ 10 → ⊥) → line_length (b ∷ s) ≡ line_length s + 1
+  unfolding line_length
+  length_on e = rw (ne_eqb _ _ e)
 
-    pub length_on : (get_or s i 0 ≡ 10 → ⊥) → i + line_length (drop i s) ≡ i + 1 + line_length (drop (i + 1) s)
-    unfolding line_length
-    length_on e = rw (drop-cons s i 0, ne_eqb _ _ e, add-one i) (omega arith)
+-- the length of the first line is the place of the first LF that a search found
+pub length_found : (s : List ℕ) (r : Option ℕ) → MatchOption r (AllWithin (λ b. b ≡ 10 → ⊥) s 0 (length s)) (λ i. (i < length s) × HoldsAt (λ b. b ≡ 10) s i × AllWithin (λ b. b ≡ 10 → ⊥) s 0 i)
+    → line_length s ≡ unwrap_or r (length s)
+unfolding line_length
+length_found = index_from_first line_length (λ b. b ≡ 10) (λ b. b ≡ 10 → ⊥) refl length_here length_on
 
--- the count of LF, with n of them before the place i
-module _ (s : List ℕ) (i n : ℕ) where
-  pub count_end : length s ≤ i → n + newlines (drop i s) ≡ n
-  unfolding newlines
-  count_end h = rw (drop_of_length-le s, add-zero)
-
-  module _ (h : i < length s) where
-    pub count_here : get_or s i 0 ≡ 10 → n + newlines (drop i s) ≡ n + 1 + newlines (drop (i + 1) s)
-    unfolding newlines
-    count_here e = rw (drop-cons s i 0, eq-eqb _ _ e, add-one i) (omega arith)
-
-    pub count_on : (get_or s i 0 ≡ 10 → ⊥) → n + newlines (drop i s) ≡ n + newlines (drop (i + 1) s)
-    unfolding newlines
-    count_on e = rw (drop-cons s i 0, ne_eqb _ _ e, add-one i)
+pub newlines_count : (s : List ℕ) → newlines s ≡ count_by (λ b. eqb b 10) s
+unfolding newlines
+newlines_count = is_count_by newlines (λ b. eqb b 10) refl (λ b s. either (eqb b 10) (newlines s))
+  where
+    either : (t : Bool) (n : ℕ) → cond t (n + 1) n ≡ cond t (1 + n) n
+    either true n = omega arith
+    either false n = refl
 
 -- the first line lies within the text
-line_within : (s : List ℕ) → line_length s ≤ length s
+pub line_within : (s : List ℕ) → line_length s ≤ length s
 unfolding line_length
 line_within [] = omega arith
 line_within (b ∷ s) = either (eqb b 10) (line_within s)

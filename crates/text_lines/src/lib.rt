@@ -15,58 +15,35 @@ const LF: u8 = b'\n';
 pub fn line_length(s: &[u8]) -> usize
     ensures { result ≡ line_length s.now }
 {
-    let mut i: usize = 0;
-    while i < s.len() {
-        if s[i] == LF {
-            return i;
-        }
-        i = i + 1;
-    }
-    i
+    s.iter().position(|b| *b == LF).unwrap_or(s.len())
 }
 
 // How many LF there are.
 pub fn count_lines(s: &[u8]) -> usize
     ensures { result ≡ newlines s.now }
 {
-    let mut i: usize = 0;
-    let mut n: usize = 0;
-    while i < s.len() {
-        if s[i] == LF {
-            n = n + 1;
-        }
-        i = i + 1;
-    }
-    n
+    s.iter().filter(|b| **b == LF).count()
 }
 
 // Whether the text is empty or its last byte is LF.
 pub fn ends_with_lf(s: &[u8]) -> bool
     ensures { result ≡ ends_with_lf s.now }
 {
-    if s.len() == 0 {
-        return true;
-    }
-    let last = s.len() - 1;
-    s[last] == LF
+    s.last().is_none_or(|b| *b == LF)
 }
 
 // The first n bytes, or all where there are fewer.
 pub fn front(s: &[u8], n: usize) -> &[u8]
     ensures { result.now ≡ take n s.now }
 {
-    if n <= s.len() { &s[..n] } else { s }
+    s.get(..n).unwrap_or(s)
 }
 
 // The text from a position on; empty past its end.
 pub fn rest(text: &[u8], at: usize) -> &[u8]
     ensures { result.now ≡ drop at text.now }
 {
-    if at <= text.len() {
-        &text[at..]
-    } else {
-        &text[..0]
-    }
+    text.get(at..).unwrap_or(&[])
 }
 
 // The line that starts at a position, as a part of the text.
@@ -74,23 +51,20 @@ pub fn line_from(text: &[u8], at: usize) -> &[u8]
     ensures { result.now ≡ first_line (drop at text.now) }
 {
     let rest = rest(text, at);
-    let n = line_length(rest);
-    front(rest, n)
+    front(rest, line_length(rest))
 }
 
 // Where the line of that number starts; where the last one ends, if there are fewer.
 pub fn line_start(text: &[u8], number: usize) -> usize
     ensures { result ≡ line_start text.now number }
 {
-    let mut at: usize = 0;
-    let mut i: usize = 0;
-    while i < number {
+    let mut at = 0;
+    for _ in 0..number {
         if text.len() <= at {
             return at;
         }
         let rest = rest(text, at);
-        at = at + line_length(rest) + 1;
-        i = i + 1;
+        at += line_length(rest) + 1;
     }
     at
 }
@@ -99,6 +73,5 @@ pub fn line_start(text: &[u8], number: usize) -> usize
 pub fn nth_line(text: &[u8], number: usize) -> &[u8]
     ensures { result.now ≡ get_or (lines text.now) number [] }
 {
-    let at = line_start(text, number);
-    line_from(text, at)
+    line_from(text, line_start(text, number))
 }

@@ -4,26 +4,26 @@ ghost use Rattle.text_lines.specs.Limits.{limit_of};
 
 use crate::{count_lines, ends_with_lf};
 
-// The first limit that a text exceeds, if any.
+// A limit that a text exceeds.
 #[derive(Clone, Copy)]
 pub enum Limit {
-    Kept,
     TooLong,
     Unended,
     TooManyLines,
 }
 
-pub fn limit_of(text: &[u8]) -> Limit
+// The first limit that a text exceeds, if any.
+pub fn limit_of(text: &[u8]) -> Option<Limit>
     ensures { result ≡ limit_of text.now }
 {
     if 65535 < text.len() {
-        return Limit::TooLong;
+        return Some(Limit::TooLong);
     }
     if !ends_with_lf(text) {
-        return Limit::Unended;
+        return Some(Limit::Unended);
     }
     if 256 < count_lines(text) {
-        return Limit::TooManyLines;
+        return Some(Limit::TooManyLines);
     }
-    Limit::Kept
+    None
 }

@@ -2,7 +2,7 @@
 use Prim.Native.Nat.{ℕ, ◌+◌, ◌<◌, ◌^◌}
 use mathlib.Core.Logic.{◌↔◌}
 use mathlib.Core.List.{List, [], ◌∷◌, ◌++◌, append_assoc, append-nil}
-use mathlib.Core.Option.{some}
+use Rattle.std.specs.Prelude.{Some}
 use mathlib.Core.Path.{◌≡◌, refl, sym, ◌∙◌, ap, subst}
 use native.Mathlib.Nat.{zero-add}
 use native.Mathlib.Omega.{arith}
@@ -42,13 +42,13 @@ module _ (a b : List ℕ) (at : ℕ) where
 -- ---- a key in front
 module _ {A : Type 0} {ok : A → Type 0} {print : A → List ℕ} {read : Reader A} (key : List ℕ) (format : Format ok print read) where
   keyed_reads : (a : A) → ok a → (s : List ℕ) (at : ℕ) (rest : List ℕ) → Ends rest → drop at s ≡ (key ++ print a) ++ rest
-      → keyed key read s at ≡ some (a, at + length (key ++ print a))
+      → keyed key read s at ≡ Some (a, at + length (key ++ print a))
   keyed_reads a o s at rest e h =
       sym (past_key key s at refl read (rw (h, append_assoc) (starts_self key (print a ++ rest)))
       (sym (format.reads a o s (at + length key) rest e (rest_of key (print a) at s rest h))))
       ∙ rw (after_both key (print a) at)
 
-  keyed_only : (s : List ℕ) (at : ℕ) (a : A) (n : ℕ) → keyed key read s at ≡ some (a, n)
+  keyed_only : (s : List ℕ) (at : ℕ) (a : A) (n : ℕ) → keyed key read s at ≡ Some (a, n)
       → ok a × (drop at s ≡ (key ++ print a) ++ drop n s) × (n ≡ at + length (key ++ print a))
   unfolding keyed
   keyed_only s at a n e = on_cond (starts_with key (drop at s))
@@ -60,18 +60,18 @@ module _ {A : Type 0} {ok : A → Type 0} {print : A → List ℕ} {read : Reade
   keyed_format = record { reads = keyed_reads; only = keyed_only }
 
 -- a number that was read behind a key is as small as its largest
-pub keyed_below : (max bound : ℕ) (key s : List ℕ) (at : ℕ) {v n : ℕ} → max < bound → max < 10 ^ 20 → keyed key (read_number max) s at ≡ some (v, n) → v < bound
+pub keyed_below : (max bound : ℕ) (key s : List ℕ) (at : ℕ) {v n : ℕ} → max < bound → max < 10 ^ 20 → keyed key (read_number max) s at ≡ Some (v, n) → v < bound
 keyed_below max bound key s at b h e = omega (arith, ((keyed_format key (number_format max h)).only s at _ _ e).0)
 
 -- ---- the same texts for the values of another type
 module _ {A B : Type 0} {ok : A → Type 0} {ok' : B → Type 0} {print : A → List ℕ} {read : Reader A} (f : B → A) (g : A → B)
     (to : (b : B) → ok' b → ok (f b) × (g (f b) ≡ b)) (back : (a : A) → ok a → ok' (g a) × (f (g a) ≡ a)) (format : Format ok print read) where
   along_reads : (b : B) → ok' b → (s : List ℕ) (at : ℕ) (rest : List ℕ) → Ends rest → drop at s ≡ print (f b) ++ rest
-      → mapped g read s at ≡ some (b, at + length (print (f b)))
+      → mapped g read s at ≡ Some (b, at + length (print (f b)))
   unfolding mapped
   along_reads b o s at rest e h = rw (format.reads (f b) (to b o).0 s at rest e h, (to b o).1)
 
-  along_only : (s : List ℕ) (at : ℕ) (b : B) (n : ℕ) → mapped g read s at ≡ some (b, n)
+  along_only : (s : List ℕ) (at : ℕ) (b : B) (n : ℕ) → mapped g read s at ≡ Some (b, n)
       → ok' b × (drop at s ≡ print (f b) ++ drop n s) × (n ≡ at + length (print (f b)))
   unfolding mapped
   along_only s at b n e = on_read_lem (read s at)
@@ -88,16 +88,16 @@ module _ {A T : Type 0} {okT : T → Type 0} {ok : A → Type 0} {printT : T →
     (tag : A → T) (fit : (a : A) → ok a → okT (tag a)) (follows : Follows (λ a. body (tag a) a))
     (tags : Format okT printT readT) (bodies : (t : T) → okT t → Format (λ a. ok a × (tag a ≡ t)) (body t) (read_body t)) where
   tagged_reads : (a : A) → ok a → (s : List ℕ) (at : ℕ) (rest : List ℕ) → Ends rest → drop at s ≡ (printT (tag a) ++ body (tag a) a) ++ rest
-      → and_then readT read_body s at ≡ some (a, at + length (printT (tag a) ++ body (tag a) a))
+      → and_then readT read_body s at ≡ Some (a, at + length (printT (tag a) ++ body (tag a) a))
   unfolding and_then
   tagged_reads a o s at rest e h =
       let t = tag a in
       let u = printT t in
       let w = body t a in
-      let tag_read : readT s at ≡ some (t, at + length u) = tags.reads t (fit a o) s at (w ++ rest) (follows a rest e) (h ∙ append_assoc u w rest) in
+      let tag_read : readT s at ≡ Some (t, at + length u) = tags.reads t (fit a o) s at (w ++ rest) (follows a rest e) (h ∙ append_assoc u w rest) in
       rw tag_read ((bodies t (fit a o)).reads a (o, refl) s (at + length u) rest e (rest_of u w at s rest h) ∙ rw (after_both u w at))
 
-  tagged_only : (s : List ℕ) (at : ℕ) (a : A) (n : ℕ) → and_then readT read_body s at ≡ some (a, n)
+  tagged_only : (s : List ℕ) (at : ℕ) (a : A) (n : ℕ) → and_then readT read_body s at ≡ Some (a, n)
       → ok a × (drop at s ≡ (printT (tag a) ++ body (tag a) a) ++ drop n s) × (n ≡ at + length (printT (tag a) ++ body (tag a) a))
   unfolding and_then
   tagged_only s at a n e = on_read_lem (readT s at)
@@ -120,13 +120,13 @@ both_format follows first second =
 -- ---- what holds of each format
 module _ {A : Type 0} {ok : A → Type 0} {print : A → List ℕ} {read : Reader A} (format : Format ok print read) where
   -- a whole text reads as a value just where it is that value's text
-  pub whole : (s : List ℕ) (a : A) → (read s 0 ≡ some (a, length s)) ↔ (ok a × (s ≡ print a))
+  pub whole : (s : List ℕ) (a : A) → (read s 0 ≡ Some (a, length s)) ↔ (ok a × (s ≡ print a))
   whole s a = (to, from)
     where
-      to : read s 0 ≡ some (a, length s) → ok a × (s ≡ print a)
+      to : read s 0 ≡ Some (a, length s) → ok a × (s ≡ print a)
       to e = let (o, t, l) = format.only s 0 a (length s) e in (o, t ∙ rw (drop-length, append-nil))
 
-      from : ok a × (s ≡ print a) → read s 0 ≡ some (a, length s)
+      from : ok a × (s ≡ print a) → read s 0 ≡ Some (a, length s)
       from (o, t) = format.reads a o s 0 [] ends_nil (t ∙ sym (append-nil (print a))) ∙ rw (zero-add, t)
 
   -- one text is one value, with what ends it behind
@@ -144,16 +144,16 @@ module _ {A B : Type 0} {ok : A → Type 0} {ok' : B → Type 0} {print : A → 
     (print' : B → List ℕ) (make : A → B) (prints : (a : A) → print' (make a) ≡ print a) (reads : (s : List ℕ) (at : ℕ) → read' s at ≡ mapped make read s at)
     (fit : (a : A) → ok a → ok' (make a)) (made : (b : B) → ok' b → (a : A) × ok a × (make a ≡ b)) (format : Format ok print read) where
   made_reads : (a : A) → ok a → (s : List ℕ) (at : ℕ) (rest : List ℕ) → Ends rest → drop at s ≡ print' (make a) ++ rest
-      → read' s at ≡ some (make a, at + length (print' (make a)))
+      → read' s at ≡ Some (make a, at + length (print' (make a)))
   unfolding mapped
   made_reads a o s at rest e h = reads s at ∙ rw (format.reads a o s at rest e (h ∙ rw (prints a) refl), prints a) refl
 
-  all_reads : (b : B) → ok' b → (s : List ℕ) (at : ℕ) (rest : List ℕ) → Ends rest → drop at s ≡ print' b ++ rest → read' s at ≡ some (b, at + length (print' b))
+  all_reads : (b : B) → ok' b → (s : List ℕ) (at : ℕ) (rest : List ℕ) → Ends rest → drop at s ≡ print' b ++ rest → read' s at ≡ Some (b, at + length (print' b))
   all_reads b o s at rest e h =
       let (a, q, m) = made b o in
-      subst (λ (b : B). drop at s ≡ print' b ++ rest → read' s at ≡ some (b, at + length (print' b))) m (made_reads a q s at rest e) h
+      subst (λ (b : B). drop at s ≡ print' b ++ rest → read' s at ≡ Some (b, at + length (print' b))) m (made_reads a q s at rest e) h
 
-  made_only : (s : List ℕ) (at : ℕ) (b : B) (n : ℕ) → read' s at ≡ some (b, n) → ok' b × (drop at s ≡ print' b ++ drop n s) × (n ≡ at + length (print' b))
+  made_only : (s : List ℕ) (at : ℕ) (b : B) (n : ℕ) → read' s at ≡ Some (b, n) → ok' b × (drop at s ≡ print' b ++ drop n s) × (n ≡ at + length (print' b))
   unfolding mapped
   made_only s at b n e = on_read_lem (read s at)
       (λ a m p q. let x : make a ≡ b = same_value q in

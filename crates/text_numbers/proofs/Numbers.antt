@@ -2,13 +2,13 @@
 use Prim.Native.Nat.{ℕ, zero, suc, ◌+◌, ◌-◌, ◌*◌, ◌/◌, ◌%◌, ◌^◌, ◌≤◌, ◌<◌}
 use mathlib.Core.Bool.{true, false, ◌&&◌, and-eq-true_iff}
 use mathlib.Core.List.{List, [], ◌∷◌, ◌++◌, append_assoc}
-use mathlib.Core.Option.{none, some}
+use Rattle.std.specs.Prelude.{None, Some}
 use mathlib.Core.Path.{◌≡◌, refl, sym, ◌∙◌, ap}
 use native.Mathlib.Decide.{dec_lt}
 use native.Mathlib.Nat.{pow-suc, add_assoc}
 use native.Mathlib.Numerals.{add-one}
 use native.Mathlib.Omega.{arith}
-use borrow.Author.Tests.{le-leb, lt-leb, leb-true, eq-eqb, ne_eqb, eqb-true, eqb-false}
+use borrow.Author.Tests.{le-leb, lt-leb, leb-true, ne_eqb, eqb-true, eqb-false}
 use lib.Dec.{leb, eqb}
 use lib.ListN.{length, get_or, drop, length-append, drop_of_length-le, get_or-eq_default}
 use lib.Seq.{drop-cons, get_or-drop, append_snoc}
@@ -38,44 +38,45 @@ digit_in s i e =
       | no l ↦ absurd (omega (arith, digit_range (get_or s i 0) e, get_or-eq_default s 0 {n = i} (omega arith)))
     ]
 
--- the digits from the place i on
-module _ (max v : ℕ) (s : List ℕ) (i : ℕ) where
-  pub digits_end : length s ≤ i → read_digits max v (drop i s) i ≡ some (v, i)
+-- the digits from the byte i on, at the place n
+module _ (max v : ℕ) (s : List ℕ) (i n : ℕ) where
+  pub digits_end : length s ≤ i → read_digits max v (drop i s) n ≡ Some (v, n)
   unfolding read_digits
   digits_end h = rw (drop_of_length-le s)
 
   module _ (h : i < length s) where
-    pub digits_stop : is_digit (get_or s i 0) ≡ false → read_digits max v (drop i s) i ≡ some (v, i)
+    pub digits_stop : is_digit (get_or s i 0) ≡ false → read_digits max v (drop i s) n ≡ Some (v, n)
     unfolding read_digits
     digits_stop e = rw (drop-cons s i 0, e)
 
-    pub digits_over : is_digit (get_or s i 0) ≡ true → max < v * 10 + (get_or s i 0 - 48) → read_digits max v (drop i s) i ≡ none
-    unfolding read_digits
-    digits_over e l = rw (drop-cons s i 0, e, lt-leb _ _ l)
+    module _ (e : is_digit (get_or s i 0) ≡ true) where
+      pub digits_over : max < v * 10 + (get_or s i 0 - 48) → read_digits max v (drop i s) n ≡ None
+      unfolding read_digits
+      digits_over l = rw (drop-cons s i 0, e, lt-leb _ _ l)
 
-    pub digits_more : is_digit (get_or s i 0) ≡ true → v * 10 + (get_or s i 0 - 48) ≤ max
-        → read_digits max v (drop i s) i ≡ read_digits max (v * 10 + (get_or s i 0 - 48)) (drop (i + 1) s) (i + 1)
-    unfolding read_digits
-    digits_more e l = rw (drop-cons s i 0, e, le-leb _ _ l, add-one)
+      pub digits_more : v * 10 + (get_or s i 0 - 48) ≤ max
+          → read_digits max v (drop i s) n ≡ read_digits max (v * 10 + (get_or s i 0 - 48)) (drop (i + 1) s) (n + 1)
+      unfolding read_digits
+      digits_more l = rw (drop-cons s i 0, e, le-leb _ _ l, add-one i)
 
 -- ---- a number, by the tests that its reader makes
 module _ (max : ℕ) (s : List ℕ) (at : ℕ) where
-  pub number_none : is_digit (get_or s at 0) ≡ false → read_number max s at ≡ none
+  pub number_none : is_digit (get_or s at 0) ≡ false → read_number max s at ≡ None
   unfolding read_number
   number_none e = rw e
 
-  module _ (d : is_digit (get_or s at 0) ≡ true) where
-    pub number_digits : (get_or s at 0 ≡ 48 → ⊥) → read_number max s at ≡ read_digits max 0 (drop at s) at
-    unfolding read_number
-    number_digits n = rw (d, ne_eqb _ _ n)
+  pub number_digits : is_digit (get_or s at 0) ≡ true → (get_or s at 0 ≡ 48 → ⊥) → read_number max s at ≡ read_digits max 0 (drop at s) at
+  unfolding read_number
+  number_digits d n = rw (d, ne_eqb _ _ n)
 
-    pub number_zero : get_or s at 0 ≡ 48 → is_digit (get_or s (at + 1) 0) ≡ false → read_number max s at ≡ some (0, at + 1)
-    unfolding read_number
-    number_zero z e = rw (d, eq-eqb _ _ z, e)
+  module _ (z : get_or s at 0 ≡ 48) where
+    pub number_zero : is_digit (get_or s (at + 1) 0) ≡ false → read_number max s at ≡ Some (0, at + 1)
+    unfolding read_number is_digit
+    number_zero e = rw (z, e)
 
-    pub number_lead : get_or s at 0 ≡ 48 → is_digit (get_or s (at + 1) 0) ≡ true → read_number max s at ≡ none
-    unfolding read_number
-    number_lead z e = rw (d, eq-eqb _ _ z, e)
+    pub number_lead : is_digit (get_or s (at + 1) 0) ≡ true → read_number max s at ≡ None
+    unfolding read_number is_digit
+    number_lead e = rw (z, e)
 
 -- ---- the text of a number reads as the number
 digits_cons : (max v b : ℕ) (t : List ℕ) (at w : ℕ) → 48 ≤ b → b ≤ 57 → v * 10 + (b - 48) ≡ w → w ≤ max
@@ -83,7 +84,7 @@ digits_cons : (max v b : ℕ) (t : List ℕ) (at w : ℕ) → 48 ≤ b → b ≤
 unfolding read_digits
 digits_cons max v b t at w l h e m = rw (digit_is b l h, e, le-leb _ _ m)
 
-digits_last : (max v : ℕ) (t : List ℕ) (at : ℕ) → is_digit (get_or t 0 0) ≡ false → read_digits max v t at ≡ some (v, at)
+digits_last : (max v : ℕ) (t : List ℕ) (at : ℕ) → is_digit (get_or t 0 0) ≡ false → read_digits max v t at ≡ Some (v, at)
 unfolding read_digits
 digits_last max v [] at e = refl
 digits_last max v (b ∷ t) at e = rw e
@@ -115,12 +116,12 @@ first_digit (suc k) v t p h =
     ]
 
 pub number_reads : (max v : ℕ) (s : List ℕ) (at : ℕ) (rest : List ℕ) → v ≤ max → max < 10 ^ 20 → is_digit (get_or rest 0 0) ≡ false
-    → drop at s ≡ print_number v ++ rest → read_number max s at ≡ some (v, at + length (print_number v))
+    → drop at s ≡ print_number v ++ rest → read_number max s at ≡ Some (v, at + length (print_number v))
 unfolding print_number decimal
 number_reads max zero s at rest m x e h =
     let z : get_or s at 0 ≡ 48 = here s at ∙ rw h in
     let n : get_or s (at + 1) 0 ≡ get_or rest 0 0 = sym (get_or-drop at s 1 0) ∙ rw h in
-    number_zero max s at (digit_is _ (omega arith) (omega arith)) z (rw n e)
+    number_zero max s at z (rw n e)
 number_reads max (suc v) s at rest m x e h =
     let f = first_digit 20 (suc v) rest (omega arith) (omega arith) in
     let z : get_or s at 0 ≡ get_or (print_number (suc v) ++ rest) 0 0 = here s at ∙ rw h in
@@ -149,7 +150,7 @@ module _ (max : ℕ) (x : max < 10 ^ 20) (s : List ℕ) (w n : ℕ) where
       let e : print_number (v * 10 + (b - 48)) ≡ print_number v ++ (b ∷ []) = print_snoc v b p l h (omega arith) in
       (i.0, sym (append_snoc (print_number v) b t) ∙ rw (← e) i.1, omega (arith, i.2, ap length e, length-append (print_number v) (b ∷ [])))
 
-  digits_only : (v : ℕ) (t : List ℕ) (at : ℕ) → 1 ≤ v → v ≤ max → drop at s ≡ t → read_digits max v t at ≡ some (w, n) → Whole v t at
+  digits_only : (v : ℕ) (t : List ℕ) (at : ℕ) → 1 ≤ v → v ≤ max → drop at s ≡ t → read_digits max v t at ≡ Some (w, n) → Whole v t at
   unfolding read_digits
   digits_only v [] at p m h e = no_digit v [] at m h (same_value e) (same_place e)
   digits_only v (b ∷ t) at p m h e =
@@ -164,7 +165,7 @@ module _ (max : ℕ) (x : max < 10 ^ 20) (s : List ℕ) (w n : ℕ) where
     first_zero : get_or s at 0 ≡ 48 → 0 ≡ w → at + 1 ≡ n → (w ≤ max) × (drop at s ≡ print_number w ++ drop n s) × (n ≡ at + length (print_number w))
     first_zero z p q = rw (← p, ← q, print_small 0 (omega arith)) (omega arith, drop-cons s at 0 (digit_in s at d) ∙ rw (z, add-one), refl)
 
-    first_other : (get_or s at 0 ≡ 48 → ⊥) → read_digits max 0 (drop at s) at ≡ some (w, n) → (w ≤ max) × (drop at s ≡ print_number w ++ drop n s) × (n ≡ at + length (print_number w))
+    first_other : (get_or s at 0 ≡ 48 → ⊥) → read_digits max 0 (drop at s) at ≡ Some (w, n) → (w ≤ max) × (drop at s ≡ print_number w ++ drop n s) × (n ≡ at + length (print_number w))
     unfolding read_digits
     first_other z e =
         let b = get_or s at 0 in
@@ -176,7 +177,7 @@ module _ (max : ℕ) (x : max < 10 ^ 20) (s : List ℕ) (w n : ℕ) where
         (i.0, c ∙ rw u at i.1, omega (arith, i.2, ap length u)))
         (λ m p. nothing p) (rw (c, d) at e)
 
-pub number_only : (max : ℕ) (s : List ℕ) (at v n : ℕ) → max < 10 ^ 20 → read_number max s at ≡ some (v, n)
+pub number_only : (max : ℕ) (s : List ℕ) (at v n : ℕ) → max < 10 ^ 20 → read_number max s at ≡ Some (v, n)
     → (v ≤ max) × (drop at s ≡ print_number v ++ drop n s) × (n ≡ at + length (print_number v))
 unfolding read_number
 number_only max s at v n x e =

@@ -3,7 +3,7 @@ use Prim.Native.Nat.{ℕ, zero, suc, ◌+◌, ◌/◌, ◌%◌, ◌≤◌}
 use mathlib.Core.Bool.{false}
 use mathlib.Core.List.{List, [], ◌∷◌, ◌++◌, append_assoc}
 use mathlib.Core.Logic.{◌⊎◌, ⊎_elim}
-use mathlib.Core.Option.{some}
+use Rattle.std.specs.Prelude.{Some}
 use mathlib.Core.Path.{◌≡◌, refl, ◌∙◌}
 use native.Mathlib.Decide.{dec_lt}
 use native.Mathlib.Omega.{arith}
@@ -22,7 +22,7 @@ module _ {A : Type 0} {ok ok' : A → Type 0} {print print' : A → List ℕ} {o
     (itself : ok first × (print first ≡ word)) (either : (a : A) → ok a → (a ≡ first) ⊎ ok' a) (back : (a : A) → ok' a → ok a × (print a ≡ print' a))
     (apart : (a : A) → ok' a → (rest : List ℕ) → starts_with word (print' a ++ rest) ≡ false) (format : Format ok' print' other) where
   word_reads : (a : A) → ok a → (s : List ℕ) (at : ℕ) (rest : List ℕ) → Ends rest → drop at s ≡ print a ++ rest
-      → word_or word first other s at ≡ some (a, at + length (print a))
+      → word_or word first other s at ≡ Some (a, at + length (print a))
   unfolding word_or
   word_reads a o s at rest e h =
       ⊎_elim
@@ -30,7 +30,7 @@ module _ {A : Type 0} {ok ok' : A → Type 0} {print print' : A → List ℕ} {o
       (λ q. let w : print a ≡ print' a = (back a q).1 in rw (h, w, apart a q rest) (format.reads a q s at rest e (rw w at h)))
       (either a o)
 
-  word_only : (s : List ℕ) (at : ℕ) (a : A) (n : ℕ) → word_or word first other s at ≡ some (a, n)
+  word_only : (s : List ℕ) (at : ℕ) (a : A) (n : ℕ) → word_or word first other s at ≡ Some (a, n)
       → ok a × (drop at s ≡ print a ++ drop n s) × (n ≡ at + length (print a))
   unfolding word_or
   word_only s at a n e =

@@ -4,7 +4,7 @@ ghost use Rattle.std.specs.Prelude.{◌≡◌, ◌≤◌, ◌<◌, ◌^◌, set}
 ghost use Rattle.text_numbers.specs.Print.{print_number, hex_digit, hexadecimal, print_hex};
 ghost use Rattle.text_numbers.specs.Inner.{Put};
 
-// A byte, where the buffer has that place.
+// A byte, where the buffer has that place. Not by `get_mut`: what a write through it leaves in a slice is not proved, but for the length.
 pub fn put_byte(out: &mut [u8], at: usize, b: u8)
     ensures { out.new ≡ set out.old at b }
 {
@@ -18,12 +18,11 @@ pub fn put_bytes(out: &mut [u8], at: usize, src: &[u8]) -> usize
     requires { at < 2 ^ 32 }
     ensures { Put src.now at out.old result out.new }
 {
-    let mut i: usize = 0;
-    while i < src.len() {
-        put_byte(out, at + i, src[i]);
-        i = i + 1;
+    if at < out.len() {
+        let n = src.len().min(out.len() - at);
+        out[at..at + n].copy_from_slice(&src[..n]);
     }
-    at + i
+    at + src.len()
 }
 
 // A number in decimal.

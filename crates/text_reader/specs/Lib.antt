@@ -1,4 +1,3 @@
 pub mod Types
 pub mod Each
-pub mod Ends
-pub mod Inner
+pub mod Left

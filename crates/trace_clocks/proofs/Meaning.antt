@@ -1,9 +1,10 @@
 -- What the test of refusal 55 means: the time rule puts a later line before the line. A trace that passes has none, and a longer delay
 -- refuses no more. Assumes nothing.
+use Rattle.std.specs.Prelude.{Ok}
 use Prim.Native.Nat.{ℕ, ◌≤◌, ◌<◌}
 use mathlib.Core.Bool.{true, false}
 use mathlib.Core.List.{List}
-use mathlib.Core.Logic.{◌↔◌, inr}
+use mathlib.Core.Logic.{◌↔◌}
 use mathlib.Core.Path.{◌≡◌}
 use native.Mathlib.Omega.{arith}
 use borrow.Author.Tests.{ltb-true, lt-ltb}
@@ -40,17 +41,17 @@ backward_iff delay es i = (
 -- ---- a trace that passes
 module _ (delay : ℕ) (es : List Event) where
   -- is handed on as it is, and no line of it is one that the time rule puts behind a later one
-  pub clocks_only : {fs : List Event} → check_clocks delay es ≡ inr fs → (es ≡ fs) × ((i : ℕ) → i < length es → BackwardAt delay es i → ⊥)
+  pub clocks_only : {fs : List Event} → check_clocks delay es ≡ Ok fs → (es ≡ fs) × ((i : ℕ) → i < length es → BackwardAt delay es i → ⊥)
   unfolding check_clocks
   clocks_only h =
-      let (_, p, u) = handed_on (refuse_at (lowest (backward delay es) (length es)) Refusal.TimeBackward) (λ _. inr es) h in
+      let (_, p, u) = handed_on (refuse_at (lowest (backward delay es) (length es)) Refusal.TimeBackward) (λ _. Ok es) h in
       (same_value u, lowest_none (BackwardAt delay es) (backward delay es) (backward_iff delay es) (length es) (nothing_found _ _ p))
 
-  pub clocks_pass : ((i : ℕ) → i < length es → BackwardAt delay es i → ⊥) → check_clocks delay es ≡ inr es
+  pub clocks_pass : ((i : ℕ) → i < length es → BackwardAt delay es i → ⊥) → check_clocks delay es ≡ Ok es
   unfolding check_clocks
   clocks_pass h = rw (lowest_absent (BackwardAt delay es) (backward delay es) (backward_iff delay es) (length es) h)
 
-  pub clocks_forward : {fs : List Event} → check_clocks delay es ≡ inr fs → (i j : ℕ) → i < j → j < length es → time_step delay (event_at es j) (event_at es i) ≡ false
+  pub clocks_forward : {fs : List Event} → check_clocks delay es ≡ Ok fs → (i j : ℕ) → i < j → j < length es → time_step delay (event_at es j) (event_at es i) ≡ false
   clocks_forward h i j l m = split (time_step delay (event_at es j) (event_at es i))
       (λ e. absurd ((clocks_only h).1 i (omega arith) (record { line = j; later = l; inside = m; puts = (time_step_iff delay (event_at es j) (event_at es i)).0 e })))
       (λ e. e)
@@ -71,5 +72,5 @@ module _ (d e : ℕ) (es : List Event) (longer : d ≤ e) where
   pub backward_less : (i : ℕ) → backward e es i ≡ true → backward d es i ≡ true
   backward_less i h = (backward_iff d es i).1 (less_backward i ((backward_iff e es i).0 h))
 
-  pub clocks_longer : check_clocks d es ≡ inr es → check_clocks e es ≡ inr es
+  pub clocks_longer : check_clocks d es ≡ Ok es → check_clocks e es ≡ Ok es
   clocks_longer h = clocks_pass e es (λ i l w. (clocks_only d es h).1 i l (less_backward i w))

@@ -1,9 +1,8 @@
 -- The pass over the lines, from the last to the first, turn by turn. Assumes nothing.
 use Prim.Native.Nat.{ℕ, ◌+◌, ◌<◌}
-use mathlib.Core.Bool.{Bool, true, false, ◌&&◌, ◌||◌, cond, or-true}
+use mathlib.Core.Bool.{Bool, true, false, ◌&&◌, ◌||◌, or-true}
 use mathlib.Core.List.{List}
-use mathlib.Core.Logic.{inr}
-use mathlib.Core.Option.{Option, none, some}
+use Rattle.std.specs.Prelude.{Option, None, Some, Ok, Err}
 use mathlib.Core.Path.{◌≡◌, refl, sym, ap, ◌∙◌}
 use native.Mathlib.Numerals.{add-one}
 use native.Mathlib.Omega.{arith}
@@ -13,12 +12,11 @@ use lib.ListN.{length}
 use Rattle.basics.specs.Searches.{any_below, or_else, lowest}
 use Rattle.basics.proofs.Booleans.{split, both_ways, and_left, and_right, and_intro, or_cases}
 use Rattle.basics.proofs.Searches.{any_same, any_none, any_found, any_at}
-use Rattle.refusals.proofs.Checks.{placed}
-use Rattle.refusals.specs.Checks.{◌▹◌, refuse_at, outcome_of, first_of}
+use Rattle.refusals.specs.Checks.{Checked, ◌▹◌, refuse_at, refuse_if}
 use Rattle.trace_events.specs.Events.{event_at}
 use Rattle.trace_events.specs.Inner.{side_of, side_later}
 use Rattle.trace_events.proofs.SideLaws.{side_later_lem}
-use Rattle.trace_clocks.specs.Types.{Refusal, Event, Side, Outcome, Earliest}
+use Rattle.trace_clocks.specs.Types.{Refusal, Event, Side, Earliest}
 use Rattle.trace_clocks.specs.Backward.{backward, check_clocks}
 use Rattle.trace_clocks.specs.Inner.{none_kept, kept_before, WithLine}
 use Rattle.trace_clocks.proofs.EarliestLaws.{before_none}
@@ -73,33 +71,33 @@ module _ (delay : ℕ) (es : List Event) where
 
 -- ---- the lowest line: the last that the pass comes to
 -- the outcome of the lines from i on, and what the lines before i say first
-pub record Passed (p : ℕ → Bool) (n i : ℕ) (outcome : Outcome) : Type 0 where
-  pub whole : placed Refusal.TimeBackward (lowest p n) ≡ first_of (placed Refusal.TimeBackward (lowest p i)) outcome
+pub record Passed (p : ℕ → Bool) (n i : ℕ) (outcome : Checked (Unit {0})) : Type 0 where
+  pub whole : refuse_at (lowest p n) Refusal.TimeBackward ≡ (refuse_at (lowest p i) Refusal.TimeBackward ▹ λ _. outcome)
 
-first_alone : (x : Option ℕ) → placed Refusal.TimeBackward x ≡ first_of (placed Refusal.TimeBackward x) Outcome.Accepted
-first_alone none = refl
-first_alone (some j) = refl
+first_alone : (x : Option ℕ) → refuse_at x Refusal.TimeBackward ≡ (refuse_at x Refusal.TimeBackward ▹ λ _. Ok tt)
+first_alone None = refl
+first_alone (Some j) = refl
 
-first_else : (x : Option ℕ) (b : Bool) (i : ℕ) (o : Outcome)
-    → first_of (placed Refusal.TimeBackward (or_else x b i)) o ≡ first_of (placed Refusal.TimeBackward x) (first_of (cond b (Outcome.Refused (Refusal.TimeBackward i)) Outcome.Accepted) o)
-first_else (some j) b i o = refl
-first_else none true i o = refl
-first_else none false i o = refl
+first_else : (x : Option ℕ) (b : Bool) (i : ℕ) (o : Checked (Unit {0}))
+    → (refuse_at (or_else x b i) Refusal.TimeBackward ▹ λ _. o) ≡ (refuse_at x Refusal.TimeBackward ▹ λ _. refuse_if b (Refusal.TimeBackward i) ▹ λ _. o)
+first_else (Some j) b i o = refl
+first_else None true i o = refl
+first_else None false i o = refl
 
 module _ (p : ℕ → Bool) (n : ℕ) where
-  pub passed_none : {i : ℕ} → i ≡ n → Passed p n i Outcome.Accepted
+  pub passed_none : {i : ℕ} → i ≡ n → Passed p n i (Ok tt)
   passed_none l = record { whole = rw l (first_alone (lowest p n)) }
 
-  pub passed_more : (i : ℕ) {b : Bool} {o here next : Outcome} → Passed p n (i + 1) o → b ≡ p i
-      → here ≡ cond b (Outcome.Refused (Refusal.TimeBackward i)) Outcome.Accepted → next ≡ first_of here o → Passed p n i next
-  unfolding lowest
-  passed_more i {o = o} w e f g = record { whole = (rw (add-one i) at w.whole) ∙ first_else (lowest p i) (p i) i o ∙ rw (g, f, e) refl }
+  module _ (i : ℕ) {o : Checked (Unit {0})} (w : Passed p n (i + 1) o) where
+    pub passed_here : p i ≡ true → Passed p n i (Err (Refusal.TimeBackward i))
+    unfolding lowest
+    passed_here e = record { whole = (rw (add-one i) at w.whole) ∙ first_else (lowest p i) (p i) i o ∙ rw e refl }
+
+    pub passed_on : p i ≡ false → Passed p n i o
+    unfolding lowest
+    passed_on e = record { whole = (rw (add-one i) at w.whole) ∙ first_else (lowest p i) (p i) i o ∙ rw e refl }
 
 -- 55
-checked : (es : List Event) (x : Option ℕ) → outcome_of (placed Refusal.TimeBackward x) es ≡ (refuse_at x Refusal.TimeBackward ▹ λ _. inr es)
-checked es none = refl
-checked es (some i) = refl
-
-pub clocks_checked : (delay : ℕ) (es : List Event) {o : Outcome} → Passed (backward delay es) (length es) 0 o → outcome_of o es ≡ check_clocks delay es
+pub clocks_checked : (delay : ℕ) (es : List Event) {o : Checked (Unit {0})} → Passed (backward delay es) (length es) 0 o → (o ▹ λ _. Ok es) ≡ check_clocks delay es
 unfolding check_clocks lowest
-clocks_checked delay es w = ap (λ o. outcome_of o es) (sym w.whole) ∙ checked es (lowest (backward delay es) (length es))
+clocks_checked delay es w = ap (λ (o : Checked (Unit {0})). o ▹ λ _. Ok es) (sym w.whole)

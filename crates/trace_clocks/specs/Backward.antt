@@ -1,6 +1,5 @@
 -- Document 01, "Refusal table", 55: the time rule puts a later line before an earlier one; as a test and in words.
-use Rattle.std.specs.Prelude.{Bool, ◌&&◌, List, ℕ, ◌<◌, ltb, length}
-use Rattle.std.proofs.Common.{inr}
+use Rattle.std.specs.Prelude.{Bool, ◌&&◌, List, ℕ, ◌<◌, ltb, length, Ok}
 use Rattle.basics.specs.Searches.{any_below, lowest}
 use Rattle.refusals.specs.Checks.{Checked, ◌▹◌, refuse_at}
 use Rattle.trace_events.specs.Events.{event_at}
@@ -15,7 +14,7 @@ backward delay es i = any_below (λ j. ltb i j && time_step delay (event_at es j
 unfoldable pub check_clocks : ℕ → List Event → Checked (List Event)
 check_clocks delay es =
     refuse_at (lowest (backward delay es) (length es)) Refusal.TimeBackward ▹ λ _.
-    inr es
+    Ok es
 
 -- in words: the time rule puts a later line before the earlier line i (proofs/Meaning.antt, `backward_iff`)
 pub record BackwardAt (delay : ℕ) (es : List Event) (i : ℕ) : Type 0 where

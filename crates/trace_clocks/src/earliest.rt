@@ -15,10 +15,7 @@ pub struct Earliest {
 fn smaller(least: u32, counts: bool, to: u32) -> u32
     ensures { result ≡ cond (counts && ltb to least) to least }
 {
-    if counts & (to < least) {
-        return to;
-    }
-    least
+    if counts { least.min(to) } else { least }
 }
 
 impl Earliest {
@@ -26,8 +23,8 @@ impl Earliest {
         ensures { result ≡ none_kept }
     {
         Earliest {
-            all: 4294967295,
-            messages: 4294967295,
+            all: u32::MAX,
+            messages: u32::MAX,
         }
     }
 
@@ -44,10 +41,7 @@ impl Earliest {
     fn held_against(self, ordered: bool) -> u32
         ensures { result ≡ cond ordered self.all self.messages }
     {
-        if ordered {
-            return self.all;
-        }
-        self.messages
+        if ordered { self.all } else { self.messages }
     }
 
     // The time rule puts one of the lines before this one.
@@ -55,6 +49,6 @@ impl Earliest {
         ensures { result ≡ kept_before delay self line }
     {
         let to = self.held_against(line.ordered);
-        line.handled & ((to as u64) + (delay as u64) < line.from as u64)
+        line.handled && u64::from(to) + u64::from(delay) < u64::from(line.from)
     }
 }

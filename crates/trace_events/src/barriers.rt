@@ -1,7 +1,7 @@
 // Which operations a barrier of their switch orders, and which a switch handles.
 ghost use Rattle.std.specs.Prelude.{◌≡◌};
 ghost use Rattle.flow_table.specs.Switches.{switch_of};
-ghost use Rattle.trace_events.specs.Events.{is_barrier, is_sent_out, is_message, barrier_orders, is_handled};
+ghost use Rattle.trace_events.specs.Events.{is_barrier, is_message, barrier_orders, is_handled};
 
 use flow_table::{Operation, Origin, TableOperation};
 
@@ -11,45 +11,21 @@ pub fn switch_of(o: Operation) -> u8
 {
     match o {
         Operation::Other => 0,
-        Operation::Barrier(w) => w,
-        Operation::Message(w) => w,
-        Operation::Table(w, _) => w,
+        Operation::Barrier(w) | Operation::Message(w) | Operation::Table(w, _) => w,
     }
 }
 
 pub fn is_barrier(o: Operation) -> bool
     ensures { result ≡ is_barrier o }
 {
-    match o {
-        Operation::Other => false,
-        Operation::Barrier(_) => true,
-        Operation::Message(_) => false,
-        Operation::Table(_, _) => false,
-    }
-}
-
-fn is_sent_out(origin: Origin) -> bool
-    ensures { result ≡ is_sent_out origin }
-{
-    match origin {
-        Origin::Received => false,
-        Origin::SentOut => true,
-    }
+    matches!(o, Operation::Barrier(_))
 }
 
 // A write, or a packet sent out.
 fn is_message(o: TableOperation) -> bool
     ensures { result ≡ is_message o }
 {
-    match o {
-        TableOperation::Packet(origin, _) => is_sent_out(origin),
-        TableOperation::Add(_) => true,
-        TableOperation::AddChecked(_) => true,
-        TableOperation::ModifyStrict(_) => true,
-        TableOperation::Modify(_) => true,
-        TableOperation::DeleteStrict(_) => true,
-        TableOperation::Delete(_) => true,
-    }
+    !matches!(o, TableOperation::Packet(Origin::Received, _))
 }
 
 // Among writes, `bar`, `msg` and `pout`.
@@ -58,8 +34,7 @@ pub fn barrier_orders(o: Operation) -> bool
 {
     match o {
         Operation::Other => false,
-        Operation::Barrier(_) => true,
-        Operation::Message(_) => true,
+        Operation::Barrier(_) | Operation::Message(_) => true,
         Operation::Table(_, t) => is_message(t),
     }
 }
@@ -68,10 +43,5 @@ pub fn barrier_orders(o: Operation) -> bool
 pub fn is_handled(o: Operation) -> bool
     ensures { result ≡ is_handled o }
 {
-    match o {
-        Operation::Other => false,
-        Operation::Barrier(_) => true,
-        Operation::Message(_) => true,
-        Operation::Table(_, _) => true,
-    }
+    !matches!(o, Operation::Other)
 }

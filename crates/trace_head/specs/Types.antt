@@ -1,4 +1,3 @@
 -- The types that this crate's definitions speak of, under one name each.
 pub use Rattle.trace_events.specs.declared.tokens.Tokens.{Tokens}
 pub use Rattle.trace_events.specs.declared.head.Head.{Head}
-pub use Rattle.trace_head.specs.declared.HeadRead.{HeadRead}

@@ -4,43 +4,36 @@
 ghost use Rattle.std.specs.Prelude.{◌≡◌};
 ghost use Rattle.refusals.specs.Checks.{refuse_none};
 ghost use Rattle.trace_head.specs.Heads.{read_head};
-ghost use Rattle.trace_head.specs.Inner.{as_head};
 
 use refusals::Refusal;
-use text_numbers::{Long, long_at};
+use text_numbers::long_at;
 use trace_events::Head;
-use trace_tokens::{TokensRead, tokens_at};
-
-// A head that was read and the place after it, or the refusal of the line.
-#[derive(Clone, Copy)]
-pub enum HeadRead {
-    Read { value: Head, next: usize },
-    Refused(Refusal),
-}
+use trace_tokens::tokens_at;
 
 // Where one of the four has no value, the line is refused: as `malformed`, which has its number.
-pub fn head_at(s: &[u8], at: usize, malformed: Refusal) -> HeadRead
-    ensures { as_head result ≡ refuse_none (read_head s.now at) malformed }
+#[tactic(auto, unfolding(crate::specs::Heads::read_head, text_numbers::specs::Reading::both, text_numbers::specs::Reading::and_then, text_numbers::specs::Reading::mapped))]
+pub fn head_at(s: &[u8], at: usize, malformed: Refusal) -> Result<(Head, usize), Refusal>
+    ensures { result ≡ refuse_none (read_head s.now at) malformed }
 {
-    let TokensRead::Read { value: ins, next } = tokens_at(s, at, b"in=") else {
-        return HeadRead::Refused(malformed);
+    let Some((ins, next)) = tokens_at(s, at, b"in=") else {
+        return Err(malformed);
     };
-    let TokensRead::Read { value: outs, next } = tokens_at(s, next, b" out=") else {
-        return HeadRead::Refused(malformed);
+    let Some((outs, next)) = tokens_at(s, next, b" out=") else {
+        return Err(malformed);
     };
-    let Long::Read { value: from, next } = long_at(s, next, b" from=", 4294967295) else {
-        return HeadRead::Refused(malformed);
+    let Some((from, next)) = long_at(s, next, b" from=", 4294967295) else {
+        return Err(malformed);
     };
-    let Long::Read { value: to, next } = long_at(s, next, b" to=", 4294967295) else {
-        return HeadRead::Refused(malformed);
+    let Some((to, next)) = long_at(s, next, b" to=", 4294967295) else {
+        return Err(malformed);
     };
-    HeadRead::Read {
-        value: Head {
+    Ok((
+        Head {
             ins,
             outs,
             from,
             to,
         },
         next,
-    }
+    ))
 }

@@ -2,7 +2,8 @@
 use Prim.Native.Nat.{ℕ, ◌≤◌}
 use mathlib.Core.List.{List, ◌++◌, append_assoc}
 use mathlib.Core.Logic.{◌↔◌}
-use mathlib.Core.Option.{Option, none, some, some-injective}
+use Rattle.std.specs.Prelude.{Option, None, Some}
+use Rattle.std.proofs.lemmas.Option.{same_Some}
 use mathlib.Core.Path.{◌≡◌, refl, ◌∙◌, ap}
 use native.Mathlib.Omega.{arith}
 use borrow.Author.Tests.{eq-eqb, eqb-true}
@@ -48,21 +49,21 @@ unfolding print_line read_numbered
 numbered_format = both_format event_follows (keyed_format (bytes "ev=") (number_format 255 (omega arith))) items_format
 
 -- the items end where the line does
-at_end_lem : (l : List ℕ) (r : Option ((ℕ × Event) × ℕ)) (x : ℕ × Event) → (at_end l r ≡ some x) ↔ (r ≡ some (x, length l))
+at_end_lem : (l : List ℕ) (r : Option ((ℕ × Event) × ℕ)) (x : ℕ × Event) → (at_end l r ≡ Some x) ↔ (r ≡ Some (x, length l))
 at_end_lem l r x = (to r, from)
   where
-    to : (r : Option ((ℕ × Event) × ℕ)) → at_end l r ≡ some x → r ≡ some (x, length l)
-    to none e = nothing e
-    to (some r) e =
+    to : (r : Option ((ℕ × Event) × ℕ)) → at_end l r ≡ Some x → r ≡ Some (x, length l)
+    to None e = nothing e
+    to (Some r) e =
         on_cond (eqb r.1 (length l))
-        (λ t p. ap (λ (y : ℕ × Event). some (y, r.1)) (some-injective r.0 x p) ∙ ap (λ (m : ℕ). some (x, m)) (eqb-true r.1 (length l) t))
+        (λ t p. ap (λ (y : ℕ × Event). Some (y, r.1)) (same_Some r.0 x p) ∙ ap (λ (m : ℕ). Some (x, m)) (eqb-true r.1 (length l) t))
         (λ t p. nothing p) e
 
-    from : r ≡ some (x, length l) → at_end l r ≡ some x
+    from : r ≡ Some (x, length l) → at_end l r ≡ Some x
     from e = rw (e, eq-eqb (length l) (length l) refl) refl
 
 -- a line is read as a number and an event just where it is their text
-pub line_format : (l : List ℕ) (n : ℕ) (e : Event) → (read_numbered_event l ≡ some (n, e)) ↔ ((n ≤ 255) × EventWritten e × (l ≡ print_line n e))
+pub line_format : (l : List ℕ) (n : ℕ) (e : Event) → (read_numbered_event l ≡ Some (n, e)) ↔ ((n ≤ 255) × EventWritten e × (l ≡ print_line n e))
 unfolding read_numbered_event
 line_format l n e = (
   λ p. let (o, t) = (whole numbered_format l (n, e)).0 ((at_end_lem l (read_numbered l 0) (n, e)).0 p) in (o.0, o.1, t),

@@ -1,9 +1,7 @@
 -- Document 01, "Trace text": a line is `key=value` items in fixed order, one space between: `ev`, `do`, the head, for all
 -- but `oth` then `sw`, and the operation's own fields. That the reader reads the printed lines and no others is proved in
 -- proofs/LineFormat.antt, `line_format`.
-use Rattle.std.specs.Prelude.{Bool, cond, List, ◌++◌, ◌⊎◌, ℕ, eqb, leb, length}
-use Rattle.std.proofs.Common.{inl, inr}
-use Rattle.std.proofs.Math.Option.{Option, none, some}
+use Rattle.std.specs.Prelude.{Bool, cond, List, ◌++◌, ℕ, eqb, leb, length, Option, None, Some, Ok, Err}
 use Rattle.basics.specs.Text.{bytes}
 use Rattle.text_numbers.specs.Reading.{Reader, and_then, mapped, keyed, both}
 use Rattle.text_numbers.specs.Number.{read_number}
@@ -11,6 +9,7 @@ use Rattle.text_numbers.specs.Print.{print_number}
 use Rattle.trace_words.specs.Words.{word_of, print_word, read_word}
 use Rattle.trace_head.specs.Heads.{print_head, read_head}
 use Rattle.trace_operation.specs.Operations.{print_operation, read_operation, clear_operation}
+use Rattle.refusals.specs.Checks.{Checked}
 use Rattle.trace_line.specs.Types.{Refusal, Operation, Head, Event, Word}
 
 -- ---- printing
@@ -44,8 +43,8 @@ read_numbered = both (keyed (bytes "ev=") (read_number 255)) read_items
 
 -- the items end where the line does
 abbrev pub at_end : List ℕ → Option ((ℕ × Event) × ℕ) → Option (ℕ × Event)
-at_end l none = none
-at_end l (some r) = cond (eqb r.1 (length l)) (some r.0) none
+at_end l None = None
+at_end l (Some r) = cond (eqb r.1 (length l)) (Some r.0) None
 
 -- a whole line: its number and its event
 unfoldable pub read_numbered_event : List ℕ → Option (ℕ × Event)
@@ -60,14 +59,14 @@ abbrev pub range_kept : Event → Bool
 range_kept e = leb e.head.from e.head.to
 
 -- on line k: 4 where the line is not read, 5 where the number is not k, 6 where an address bit stands past its prefix, 54 where `from` is above `to`
-abbrev pub on_line : ℕ → Option (ℕ × Event) → Refusal ⊎ Event
-on_line k none = inl (Refusal.TraceMalformed k)
-on_line k (some r) =
+abbrev pub on_line : ℕ → Option (ℕ × Event) → Checked Event
+on_line k None = Err (Refusal.TraceMalformed k)
+on_line k (Some r) =
     cond (eqb r.0 k)
     (cond (clear_event r.1)
-    (cond (range_kept r.1) (inr r.1) (inl (Refusal.RangeReversed k)))
-    (inl (Refusal.TraceAddressBit k)))
-    (inl (Refusal.EventMisnumbered k))
+    (cond (range_kept r.1) (Ok r.1) (Err (Refusal.RangeReversed k)))
+    (Err (Refusal.TraceAddressBit k)))
+    (Err (Refusal.EventMisnumbered k))
 
-unfoldable pub read_event : ℕ → List ℕ → Refusal ⊎ Event
+unfoldable pub read_event : ℕ → List ℕ → Checked Event
 read_event k l = on_line k (read_numbered_event l)

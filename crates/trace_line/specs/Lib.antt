@@ -1,4 +1,3 @@
 pub mod Types
 pub mod EventLine
 pub mod Written
-pub mod Inner

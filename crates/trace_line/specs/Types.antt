@@ -4,4 +4,3 @@ pub use Rattle.flow_table.specs.declared.operation.Operation.{Operation}
 pub use Rattle.trace_events.specs.declared.head.Head.{Head}
 pub use Rattle.trace_events.specs.declared.event.Event.{Event}
 pub use Rattle.trace_words.specs.declared.word.Word.{Word}
-pub use Rattle.trace_line.specs.declared.line.EventRead.{EventRead}

@@ -1,3 +1,2 @@
-pub mod OperationLaws
 pub mod OperationFormat
 pub mod OperationRanges

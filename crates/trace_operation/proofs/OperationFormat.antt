@@ -1,7 +1,7 @@
 -- The rest of a line, behind its head: for each word what stands behind the switch has a format, and so have the word's operations.
 use Prim.Native.Nat.{ℕ, ◌≤◌}
 use mathlib.Core.List.{List, [], ◌++◌, append-nil}
-use mathlib.Core.Option.{Option, none, some}
+use Rattle.std.specs.Prelude.{Option, None, Some}
 use mathlib.Core.Path.{◌≡◌, refl, sym, ◌∙◌, ap, subst}
 use native.Mathlib.Nat.{add-zero}
 use native.Mathlib.Omega.{arith}
@@ -36,7 +36,7 @@ record Own (u : SwitchWord) : Type 1 where
   word : (w : ℕ) (x : Value) → word_of (make w x) ≡ Word.On u
 
 abbrev read_nothing : Reader (Unit {0})
-read_nothing s at = some (tt, at)
+read_nothing s at = Some (tt, at)
 
 nothing_format : Format (λ (x : Unit {0}). Unit {0}) (λ x. []) read_nothing
 nothing_format = record {
@@ -163,9 +163,9 @@ unfolding and_then mapped both
 behind_switch u s at = go (read_switch s at)
   where
     go : (r : Option (ℕ × ℕ)) → on_read r (λ w n. read_on u w s n)
-        ≡ on_read (on_read r (λ w n. on_read ((own u).read s n) (λ a m. some ((w, a), m)))) (λ p m. some (makes u p, m))
-    go none = refl
-    go (some r) = own_reads u r.0 s r.1 ∙ twice (makes u) (λ a. (r.0, a)) ((own u).make r.0) (λ a. refl) ((own u).read s r.1)
+        ≡ on_read (on_read r (λ w n. on_read ((own u).read s n) (λ a m. Some ((w, a), m)))) (λ p m. Some (makes u p, m))
+    go None = refl
+    go (Some r) = own_reads u r.0 s r.1 ∙ twice (makes u) (λ a. (r.0, a)) ((own u).make r.0) (λ a. refl) ((own u).read s r.1)
 
 pub operation_format : (v : Word) → Format (λ o. OperationWritten o × (word_of o ≡ v)) print_operation (read_operation v)
 unfolding read_operation print_operation mapped

@@ -1,7 +1,6 @@
 -- Document 01, "Trace text": for all but `oth` then `sw` (0 to 15); for `pkt` and `pout` port vlan src dst proto sport dport; for
 -- writes prio, those seven, act (`dels` has no act; `deln` neither prio nor act).
-use Rattle.std.specs.Prelude.{Bool, true, List, [], ◌++◌, ℕ, ◌≤◌}
-use Rattle.std.proofs.Math.Option.{some}
+use Rattle.std.specs.Prelude.{Bool, true, List, [], ◌++◌, ℕ, ◌≤◌, Some}
 use Rattle.basics.specs.Text.{bytes}
 use Rattle.text_numbers.specs.Reading.{Reader, and_then, mapped, keyed}
 use Rattle.text_numbers.specs.Number.{read_number}
@@ -38,8 +37,8 @@ read_switch = keyed (bytes " sw=") (read_number 15)
 
 -- the operation of a word on switch w, with its own fields
 unfoldable pub read_on : SwitchWord → ℕ → Reader Operation
-read_on SwitchWord.Barrier w s at = some (Operation.Barrier w, at)
-read_on SwitchWord.Message w s at = some (Operation.Message w, at)
+read_on SwitchWord.Barrier w s at = Some (Operation.Barrier w, at)
+read_on SwitchWord.Message w s at = Some (Operation.Message w, at)
 read_on (SwitchWord.Packet g) w s at = mapped (λ p. Operation.Table w (TableOperation.Packet g p)) read_packet s at
 read_on (SwitchWord.Write a) w s at = mapped (λ e. Operation.Table w (write_of a e)) read_entry s at
 read_on SwitchWord.DeleteStrict w s at = mapped (λ k. Operation.Table w (TableOperation.DeleteStrict k)) read_key s at
@@ -47,7 +46,7 @@ read_on SwitchWord.Delete w s at = mapped (λ m. Operation.Table w (TableOperati
 
 -- the rest of the line of an operation, by its word: for all but `oth` the switch, and then its own fields
 unfoldable pub read_operation : Word → Reader Operation
-read_operation Word.Other s at = some (Operation.Other, at)
+read_operation Word.Other s at = Some (Operation.Other, at)
 read_operation (Word.On u) s at = and_then read_switch (read_on u) s at
 
 -- ---- what a line can say: a prefix as written may have an address bit past its length

@@ -10,4 +10,3 @@ pub use Rattle.refusals.specs.declared.refusal.Refusal.{Refusal}
 pub use Rattle.trace_words.specs.declared.word.Word.{Word}
 pub use Rattle.trace_words.specs.declared.word.SwitchWord.{SwitchWord}
 pub use Rattle.trace_words.specs.declared.word.Write.{Write}
-pub use Rattle.trace_operation.specs.declared.read.OperationRead.{OperationRead}

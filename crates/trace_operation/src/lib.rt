@@ -5,4 +5,4 @@ pub mod clear; // no address bit past its prefix
 pub mod read; // from a place of a line on
 
 pub use clear::clear_operation;
-pub use read::{OperationRead, operation_at};
+pub use read::operation_at;

@@ -3,37 +3,25 @@
 #![tactic(auto)]
 
 use program_delay::DELAY;
-use refusals::Outcome;
 use std::rt::Files;
 
 // The files 000 and on: accepted texts; then refusals 1, 2 and 3; then malformed lines, item by item; then 5, 6, 7, 8 and texts with
 // several faults; from 169 on clocks.
 const CASES: u8 = 181;
 
-fn answer<R: Print + Eprint>(rt: &R, text: &[u8], outcome: Outcome, events: usize) {
-    match outcome {
-        Outcome::Accepted => {
-            program_output::field(rt, b"accepted events=", events as u64);
+fn read_text<R: Print + Eprint>(rt: &R, text: &[u8]) {
+    match trace_text::read_trace(text, DELAY) {
+        Ok(events) => {
+            program_output::field(rt, b"accepted events=", events.len as u64);
             program_output::end_line(rt);
         }
-        Outcome::Refused(r) => {
-            program_output::write_refused(rt, text, b"", r);
-        }
+        Err(refusal) => program_output::write_refused(rt, text, b"", refusal),
     }
-}
-
-fn read_text<R: Print + Eprint>(rt: &R, text: &[u8]) {
-    let result = trace_text::read_trace(text, DELAY);
-    let outcome = result.outcome;
-    let events = result.trace;
-    answer(rt, text, outcome, events.len);
 }
 
 fn read_file<R: Files + Print + Eprint>(rt: &R, path: &[u8]) {
     let mut buf = [0u8; 65536];
-    let input = program_input::read_file(rt, path, &mut buf);
-    if input.ok {
-        let n = input.len;
+    if let Some(n) = program_input::read_file(rt, path, &mut buf) {
         read_text(rt, &buf[..n]);
     }
 }

@@ -4,7 +4,7 @@ use native.Mathlib.Omega.{arith}
 use mathlib.Core.Path.{◌≡◌, refl}
 use mathlib.Core.List.{List}
 use mathlib.Core.Logic.{◌⊎◌, inl, inr}
-use mathlib.Core.Option.{Option, none, some}
+use Rattle.std.specs.Prelude.{Option, None, Some, Ok, Err}
 use lib.Dec.{eqb}
 use lib.ListN.{length}
 use Rattle.basics.proofs.Booleans.{split}
@@ -23,24 +23,24 @@ use Rattle.trace_text.specs.TraceText.{read_trace}
 use Rattle.trace_text.specs.Inner.{check_events}
 
 -- ---- the text: 1, 2, 3 have the place 0
-limit_refuses : (l : Limit) (r : Refusal) → refuse_limit l Refusal.TraceTooLong Refusal.TraceUnended Refusal.TraceTooManyLines ≡ inl r
+limit_refuses : (l : Option Limit) (r : Refusal) → refuse_limit l Refusal.TraceTooLong Refusal.TraceUnended Refusal.TraceTooManyLines ≡ Err r
     → (number_of r ≤ 3) × (place_of r ≡ 0) × (source_of r ≡ Source.Neither)
-limit_refuses Limit.TooLong r u = rw (← same_refusal u) (omega arith, refl, refl)
-limit_refuses Limit.Unended r u = rw (← same_refusal u) (omega arith, refl, refl)
-limit_refuses Limit.TooManyLines r u = rw (← same_refusal u) (omega arith, refl, refl)
-limit_refuses Limit.Kept r u = not_refused u
+limit_refuses (Some Limit.TooLong) r u = rw (← same_refusal u) (omega arith, refl, refl)
+limit_refuses (Some Limit.Unended) r u = rw (← same_refusal u) (omega arith, refl, refl)
+limit_refuses (Some Limit.TooManyLines) r u = rw (← same_refusal u) (omega arith, refl, refl)
+limit_refuses None r u = not_refused u
 
 -- ---- a line: 4, 5, 6, 54 are of the line itself
 abbrev pub ByLine : Refusal → Type 0
 ByLine r = (number_of r ≤ 6) ⊎ (number_of r ≡ 54)
 
-line_refuses : (k : ℕ) (l : List ℕ) (r : Refusal) → read_event k l ≡ inl r → ByLine r × (place_of r ≡ k)
+line_refuses : (k : ℕ) (l : List ℕ) (r : Refusal) → read_event k l ≡ Err r → ByLine r × (place_of r ≡ k)
 unfolding read_event
 line_refuses k l r h = go (read_numbered_event l) h
   where
-    go : (x : Option (ℕ × Event)) → on_line k x ≡ inl r → ByLine r × (place_of r ≡ k)
-    go none u = rw (← same_refusal u) (inl (omega arith), refl)
-    go (some x) u = split (eqb x.0 k)
+    go : (x : Option (ℕ × Event)) → on_line k x ≡ Err r → ByLine r × (place_of r ≡ k)
+    go None u = rw (← same_refusal u) (inl (omega arith), refl)
+    go (Some x) u = split (eqb x.0 k)
         (λ a. split (clear_event x.1)
         (λ b. split (range_kept x.1)
         (λ d. not_refused (rw (a, b, d) at u))
@@ -49,10 +49,10 @@ line_refuses k l r h = go (read_numbered_event l) h
         (λ a. rw (← same_refusal (rw a at u)) (inl (omega arith), refl))
 
 -- ---- why a trace is refused: by a limit, by a line, or by the tokens or the clocks of its events
-pub refused_for : {G : Type 0} (delay : ℕ) (s : List ℕ) (r : Refusal) → read_trace delay s ≡ inl r
+pub refused_for : {G : Type 0} (delay : ℕ) (s : List ℕ) (r : Refusal) → read_trace delay s ≡ Err r
     → (number_of r ≤ 3 → place_of r ≡ 0 → source_of r ≡ Source.Neither → G)
     → (Within s → ByLine r → place_of r < length (lines s) → G)
-    → (Within s → (es : List Event) → read_each read_event 0 (lines s) ≡ inr es → check_events delay es ≡ inl r → G)
+    → (Within s → (es : List Event) → read_each read_event 0 (lines s) ≡ Ok es → check_events delay es ≡ Err r → G)
     → G
 unfolding read_trace check_events check_clocks
 refused_for delay s r h limit line events =

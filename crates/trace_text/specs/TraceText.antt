@@ -1,6 +1,5 @@
 -- Document 01, "Trace text" and "Refusal table": the whole text, a line a check, in the order of the checks.
-use Rattle.std.specs.Prelude.{Bool, ◌&&◌, List, ℕ, leb, length}
-use Rattle.std.proofs.Common.{inr}
+use Rattle.std.specs.Prelude.{Bool, ◌&&◌, List, ℕ, leb, length, Ok}
 use Rattle.text_lines.specs.Lines.{lines}
 use Rattle.text_lines.specs.Limits.{limit_of}
 use Rattle.text_reader.specs.Each.{read_each}
@@ -38,4 +37,4 @@ read_trace delay s =
     refuse_at (lowest (twice es) (length es)) Refusal.TokenTwice ▹ λ _.
     refuse_at (lowest (taken_early es) (length es)) Refusal.TokenTooEarly ▹ λ _.
     refuse_at (lowest (backward delay es) (length es)) Refusal.TimeBackward ▹ λ _.
-    inr es
+    Ok es

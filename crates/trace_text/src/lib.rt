@@ -4,4 +4,4 @@
 pub mod text; // the checks of the text and its lines
 mod tokens; // the checks of the tokens over the trace
 
-pub use text::{TraceRead, read_trace};
+pub use text::read_trace;

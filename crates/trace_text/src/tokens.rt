@@ -1,71 +1,56 @@
 // The tokens of a trace: none put out twice, none taken in before it is put out.
-ghost use Rattle.std.specs.Prelude.{◌≡◌, ℕ, ◌<◌, ◌≤◌, get_or};
-ghost use Rattle.trace_events.specs.Events.{events_of, event_at, no_tokens};
-ghost use Rattle.refusals.specs.Checks.{outcome_of};
-ghost use Rattle.trace_text.specs.Inner.{SearchEnd, check_tokens};
+ghost use Rattle.std.specs.Prelude.{◌≡◌, length, Ok};
+ghost use Rattle.std.specs.List.{list_any};
+ghost use Rattle.basics.specs.Searches.{shares, lowest};
+ghost use Rattle.trace_events.specs.Events.{tokens_of};
+ghost use Rattle.refusals.specs.Checks.{◌▹◌};
+ghost use Rattle.trace_text.specs.TraceText.{twice, taken_early};
+ghost use Rattle.trace_text.specs.Inner.{check_tokens};
 
-use refusals::{Outcome, Refusal, first_of, refused_if};
-use trace_events::{Tokens, Trace};
+use refusals::Refusal;
+use trace_events::{Event, Tokens};
 
-// What each line puts out: a small array, so that the searches copy no events.
-fn all_outs(t: Trace) -> [Tokens; 256]
-    requires { t.len ≤ 256 }
-    ensures { (k : ℕ) → k < t.len → get_or result k no_tokens ≡ (event_at (events_of t) k).head.outs }
+// Some line puts out one of the tokens; where there are none, no line is looked at.
+fn puts_out(tokens: Tokens, lines: &[Event]) -> bool
+    ensures { result ≡ list_any (λ e. shares (tokens_of tokens) (tokens_of e.head.outs)) lines.now }
 {
-    let n = t.len;
-    let none = Tokens::none();
-    let mut all = [none; 256];
-    for k in 0..n {
-        let event = t.events[k];
-        let outs = event.head.outs;
-        all[k] = outs;
-    }
-    all
+    tokens.count != 0 && lines.iter().any(|line| tokens.shares(line.head.outs))
 }
 
-// Where the search for the tokens in the lines from `from` on and before `to` ends: where it starts if there are none.
-fn search_end(tokens: Tokens, from: usize, to: usize) -> usize
-    requires { from ≤ to }
-    ensures { SearchEnd tokens from to result }
+// The lowest line that puts out a token which an earlier line puts out.
+fn twice(events: &[Event]) -> Option<usize>
+    ensures { result ≡ lowest (twice events.now) (length events.now) }
 {
-    if tokens.count == 0 {
-        return from;
+    for (k, event) in events.iter().enumerate() {
+        if puts_out(event.head.outs, &events[..k]) {
+            return Some(k);
+        }
     }
-    to
+    None
 }
 
-// The lowest line that puts out a token which an earlier line puts out; then the lowest that takes in a token which this or a later
-// line puts out. The searches stand here, since a call would copy the array at each line.
-pub(crate) fn check_tokens(t: Trace) -> Outcome
-    requires { t.len ≤ 256 }
-    ensures { outcome_of result (events_of t) ≡ check_tokens (events_of t) }
+// The lowest line that takes in a token which this or a later line puts out.
+fn taken_early(events: &[Event]) -> Option<usize>
+    ensures { result ≡ lowest (taken_early events.now) (length events.now) }
 {
-    let n = t.len;
-    let all = all_outs(t);
-    let mut twice = Outcome::Accepted;
-    let mut early = Outcome::Accepted;
-    for k in 0..n {
-        let event = t.events[k];
-        let outs = event.head.outs;
-        let mut again = false;
-        let end = search_end(outs, 0, k);
-        for i in 0..end {
-            let others = all[i];
-            let shared = outs.shares(others);
-            again = again | shared;
+    for (k, event) in events.iter().enumerate() {
+        if puts_out(event.head.ins, &events[k..]) {
+            return Some(k);
         }
-        let twice_here = refused_if(again, Refusal::TokenTwice(k));
-        twice = first_of(twice, twice_here);
-        let ins = event.head.ins;
-        let mut later = false;
-        let end = search_end(ins, k, n);
-        for i in k..end {
-            let others = all[i];
-            let shared = ins.shares(others);
-            later = later | shared;
-        }
-        let early_here = refused_if(later, Refusal::TokenTooEarly(k));
-        early = first_of(early, early_here);
     }
-    first_of(twice, early)
+    None
+}
+
+// The lowest line with a token twice; then the lowest with one too early.
+#[tactic(auto, unfolding(crate::specs::Inner::check_tokens))]
+pub(crate) fn check_tokens(events: &[Event]) -> Result<(), Refusal>
+    ensures { (result ▹ λ _. Ok events.now) ≡ check_tokens events.now }
+{
+    if let Some(line) = twice(events) {
+        return Err(Refusal::TokenTwice(line));
+    }
+    if let Some(line) = taken_early(events) {
+        return Err(Refusal::TokenTooEarly(line));
+    }
+    Ok(())
 }

@@ -2,7 +2,7 @@
 use Prim.Native.Nat.{ℕ, zero, suc, ◌+◌, ◌≤◌, ◌<◌}
 use mathlib.Core.Bool.{false}
 use mathlib.Core.List.{List, [], ◌∷◌, ◌++◌, append_assoc}
-use mathlib.Core.Option.{Option, none, some}
+use Rattle.std.specs.Prelude.{Option, None, Some}
 use mathlib.Core.Path.{◌≡◌, refl, sym, ◌∙◌, ap}
 use native.Mathlib.Nat.{add-zero}
 use native.Mathlib.Numerals.{add-one}
@@ -32,7 +32,7 @@ more_digit (t ∷ ts) rest e = refl
 
 -- ---- the numbers after the first
 more_reads : (k last : ℕ) (ts : List ℕ) → Rising last ts → length ts ≤ k → (s : List ℕ) (at : ℕ) (rest : List ℕ) → Ends rest
-    → drop at s ≡ print_more ts ++ rest → read_more k last s at ≡ some (ts, at + length (print_more ts))
+    → drop at s ≡ print_more ts ++ rest → read_more k last s at ≡ Some (ts, at + length (print_more ts))
 unfolding read_more print_more mapped
 more_reads zero last [] o l s at rest e h = rw add-zero
 more_reads zero last (t ∷ ts) o l s at rest e h = absurd (omega arith)
@@ -42,36 +42,36 @@ more_reads (suc k) last [] o l s at rest e h =
 more_reads (suc k) last (t ∷ ts) (l, b, o) m s at rest e h =
     let c : get_or s at 0 ≡ 44 = here s at ∙ rw h refl in
     let d : drop (at + 1) s ≡ print_number t ++ (print_more ts ++ rest) = behind (bytes ",") (print_number t ++ (print_more ts ++ rest)) s at (h ∙ ap (λ (l : List ℕ). 44 ∷ l) (append_assoc (print_number t) (print_more ts) rest)) in
-    let r : read_number 65535 s (at + 1) ≡ some (t, at + 1 + length (print_number t)) = number_reads 65535 t s (at + 1) (print_more ts ++ rest) b (omega arith) (more_digit ts rest e) d in
+    let r : read_number 65535 s (at + 1) ≡ Some (t, at + 1 + length (print_number t)) = number_reads 65535 t s (at + 1) (print_more ts ++ rest) b (omega arith) (more_digit ts rest e) d in
     let n : next_token last s at ≡ NextToken.Token t (at + 1 + length (print_number t)) = next_above last s at c r l in
-    let i : read_more k t s (at + 1 + length (print_number t)) ≡ some (ts, at + 1 + length (print_number t) + length (print_more ts)) =
+    let i : read_more k t s (at + 1 + length (print_number t)) ≡ Some (ts, at + 1 + length (print_number t) + length (print_more ts)) =
     more_reads k t ts o (omega arith) s (at + 1 + length (print_number t)) rest e (behind (print_number t) (print_more ts ++ rest) s (at + 1) d) in
     let p : at + 1 + length (print_number t) + length (print_more ts) ≡ at + suc (length (print_number t ++ print_more ts)) = rw length-append (omega arith) in
     rw (n, i, p) refl
 
 -- where a token follows, a comma and a number above the last stand there
-on_next_lem : {A P : Type 0} (r : NextToken) {end : A × ℕ} {more : ℕ → ℕ → Option (A × ℕ)} {x : A × ℕ} → (r ≡ NextToken.End → some end ≡ some x → P)
-    → ((t n : ℕ) → r ≡ NextToken.Token t n → more t n ≡ some x → P) → on_next r end more ≡ some x → P
+on_next_lem : {A P : Type 0} (r : NextToken) {end : A × ℕ} {more : ℕ → ℕ → Option (A × ℕ)} {x : A × ℕ} → (r ≡ NextToken.End → Some end ≡ Some x → P)
+    → ((t n : ℕ) → r ≡ NextToken.Token t n → more t n ≡ Some x → P) → on_next r end more ≡ Some x → P
 on_next_lem (NextToken.Token t n) f g e = g t n refl e
 on_next_lem NextToken.End f g e = f refl e
 on_next_lem NextToken.Bad f g e = nothing e
 
-above_only : (last : ℕ) (r : Option (ℕ × ℕ)) (t n : ℕ) → above_last last r ≡ NextToken.Token t n → (r ≡ some (t, n)) × (last < t)
-above_only last none t n e = absurd (let z : ◌≡◌ {A = ℕ} 0 1 = cc in omega arith)
-above_only last (some r) t n e =
+above_only : (last : ℕ) (r : Option (ℕ × ℕ)) (t n : ℕ) → above_last last r ≡ NextToken.Token t n → (r ≡ Some (t, n)) × (last < t)
+above_only last None t n e = absurd (let z : ◌≡◌ {A = ℕ} 0 1 = cc in omega arith)
+above_only last (Some r) t n e =
     on_cond (ltb last r.0)
     (λ l p. let x : r.0 ≡ t = cc in let y : r.1 ≡ n = cc in rw (← x, ← y) (refl, ltb-true _ _ l))
     (λ l p. absurd (let z : ◌≡◌ {A = ℕ} 0 1 = cc in omega arith)) e
 
 next_only : (last : ℕ) (s : List ℕ) (at t n : ℕ) → next_token last s at ≡ NextToken.Token t n
-    → (get_or s at 0 ≡ 44) × (read_number 65535 s (at + 1) ≡ some (t, n)) × (last < t)
+    → (get_or s at 0 ≡ 44) × (read_number 65535 s (at + 1) ≡ Some (t, n)) × (last < t)
 unfolding next_token
 next_only last s at t n e =
     on_cond (eqb (get_or s at 0) 44)
     (λ c p. let (r, l) = above_only last (read_number 65535 s (at + 1)) t n p in (eqb-true (get_or s at 0) 44 c, r, l))
     (λ c p. absurd (let z : ◌≡◌ {A = ℕ} 0 1 = cc in omega arith)) e
 
-more_only : (k last : ℕ) (s : List ℕ) (at : ℕ) (ts : List ℕ) (n : ℕ) → read_more k last s at ≡ some (ts, n)
+more_only : (k last : ℕ) (s : List ℕ) (at : ℕ) (ts : List ℕ) (n : ℕ) → read_more k last s at ≡ Some (ts, n)
     → (Rising last ts × (length ts ≤ k)) × (drop at s ≡ print_more ts ++ drop n s) × (n ≡ at + length (print_more ts))
 unfolding read_more print_more mapped
 more_only zero last s at ts n e =
@@ -95,25 +95,25 @@ more_only (suc k) last s at ts n e =
     )) p) e
 
 -- ---- the whole list
-no_dash : (s : List ℕ) (at : ℕ) (x : ℕ × ℕ) → read_number 65535 s at ≡ some x → get_or s at 0 ≡ 45 → ⊥
+no_dash : (s : List ℕ) (at : ℕ) (x : ℕ × ℕ) → read_number 65535 s at ≡ Some x → get_or s at 0 ≡ 45 → ⊥
 unfolding is_digit
 no_dash s at x e d = nothing (sym (number_none 65535 s at (rw d refl)) ∙ e)
 
 list_reads : (ts : List ℕ) → ListWritten ts → (s : List ℕ) (at : ℕ) (rest : List ℕ) → Ends rest → drop at s ≡ print_tokens ts ++ rest
-    → read_token_list s at ≡ some (ts, at + length (print_tokens ts))
+    → read_token_list s at ≡ Some (ts, at + length (print_tokens ts))
 unfolding read_token_list read_some print_tokens and_then mapped
 list_reads [] o s at rest e h =
     let c : get_or s at 0 ≡ 45 = here s at ∙ rw h refl in
     rw (eq-eqb _ _ c) refl
 list_reads (t ∷ ts) (b, o, m) s at rest e h =
     let d : drop at s ≡ print_number t ++ (print_more ts ++ rest) = h ∙ append_assoc (print_number t) (print_more ts) rest in
-    let r : read_number 65535 s at ≡ some (t, at + length (print_number t)) = number_reads 65535 t s at (print_more ts ++ rest) b (omega arith) (more_digit ts rest e) d in
-    let i : read_more 3 t s (at + length (print_number t)) ≡ some (ts, at + length (print_number t) + length (print_more ts)) =
+    let r : read_number 65535 s at ≡ Some (t, at + length (print_number t)) = number_reads 65535 t s at (print_more ts ++ rest) b (omega arith) (more_digit ts rest e) d in
+    let i : read_more 3 t s (at + length (print_number t)) ≡ Some (ts, at + length (print_number t) + length (print_more ts)) =
     more_reads 3 t ts o m s (at + length (print_number t)) rest e (behind (print_number t) (print_more ts ++ rest) s at d) in
     let p : at + length (print_number t) + length (print_more ts) ≡ at + length (print_number t ++ print_more ts) = rw length-append (omega arith) in
     rw (ne_eqb _ _ (no_dash s at _ r), r, i, p) refl
 
-list_only : (s : List ℕ) (at : ℕ) (ts : List ℕ) (n : ℕ) → read_token_list s at ≡ some (ts, n)
+list_only : (s : List ℕ) (at : ℕ) (ts : List ℕ) (n : ℕ) → read_token_list s at ≡ Some (ts, n)
     → ListWritten ts × (drop at s ≡ print_tokens ts ++ drop n s) × (n ≡ at + length (print_tokens ts))
 unfolding read_token_list read_some print_tokens and_then mapped
 list_only s at ts n e =

@@ -1,6 +1,5 @@
 -- Document 01, "Trace text": `in` and `out` are `-` or one to four token numbers (0 to 65535), strictly rising, with commas.
-use Rattle.std.specs.Prelude.{cond, List, [], ◌∷◌, ◌++◌, ◌≡◌, ℕ, zero, suc, ◌+◌, ◌≤◌, ◌<◌, eqb, ltb, length, get_or}
-use Rattle.std.proofs.Math.Option.{Option, none, some}
+use Rattle.std.specs.Prelude.{cond, List, [], ◌∷◌, ◌++◌, ◌≡◌, ℕ, zero, suc, ◌+◌, ◌≤◌, ◌<◌, eqb, ltb, length, get_or, Option, None, Some}
 use Rattle.basics.specs.Text.{bytes}
 use Rattle.text_numbers.specs.Reading.{Reader, and_then, mapped}
 use Rattle.text_numbers.specs.Number.{read_number}
@@ -20,8 +19,8 @@ print_tokens (t ∷ ts) = print_number t ++ print_more ts
 
 -- a number that was read is the next token only if it is above the last
 abbrev pub above_last : ℕ → Option (ℕ × ℕ) → NextToken
-above_last last none = NextToken.Bad
-above_last last (some r) = cond (ltb last r.0) (NextToken.Token r.0 r.1) NextToken.Bad
+above_last last None = NextToken.Bad
+above_last last (Some r) = cond (ltb last r.0) (NextToken.Token r.0 r.1) NextToken.Bad
 
 -- what follows a token: where a comma stands, a number above the last; else the list ends
 unfoldable pub next_token : ℕ → List ℕ → ℕ → NextToken
@@ -30,12 +29,12 @@ next_token last s at = cond (eqb (get_or s at 0) 44) (above_last last (read_numb
 -- the reading goes on behind a next token, and ends where the list does
 abbrev pub on_next : {A : Type 0} → NextToken → A × ℕ → (ℕ → ℕ → Option (A × ℕ)) → Option (A × ℕ)
 on_next (NextToken.Token t n) end more = more t n
-on_next NextToken.End end more = some end
-on_next NextToken.Bad end more = none
+on_next NextToken.End end more = Some end
+on_next NextToken.Bad end more = None
 
 -- at most so many numbers more, above the last and rising
 unfoldable pub read_more : ℕ → ℕ → Reader (List ℕ)
-read_more zero last s at = some ([], at)
+read_more zero last s at = Some ([], at)
 read_more (suc k) last s at = on_next (next_token last s at) ([], at) (λ t n. mapped (λ ts. t ∷ ts) (read_more k t) s n)
 
 -- a first number, and at most three more
@@ -44,7 +43,7 @@ read_some = and_then (read_number 65535) (λ t. mapped (λ ts. t ∷ ts) (read_m
 
 -- `-`, or one to four numbers
 unfoldable pub read_token_list : Reader (List ℕ)
-read_token_list s at = cond (eqb (get_or s at 0) 45) (some ([], at + 1)) (read_some s at)
+read_token_list s at = cond (eqb (get_or s at 0) 45) (Some ([], at + 1)) (read_some s at)
 
 -- at most four numbers as a value of the code: the places that are not used are 0
 unfoldable pub tokens_from : List ℕ → Tokens

@@ -1,16 +1,15 @@
 // The tokens of `in` or `out`: `-`, or one to four numbers with commas, strictly rising.
 #![tactic(auto)]
 
-ghost use Rattle.std.specs.Prelude.{◌≡◌, [], ◌∷◌, ◌++◌, ◌<◌};
+ghost use Rattle.std.specs.Prelude.{◌≡◌, ◌∷◌, get_or, length, ◌≤◌};
 ghost use Rattle.text_numbers.specs.Reading.{keyed, mapped};
-ghost use Rattle.trace_events.specs.Events.{tokens_of};
 ghost use Rattle.trace_tokens.specs.TokenLists.{next_token, read_more, read_tokens, tokens_from};
-ghost use Rattle.trace_tokens.specs.Inner.{as_tokens};
 
-use text_numbers::{Number, byte_at, read_number, starts_with};
+use text_numbers::{byte_at, keyed, read_number};
 use trace_events::Tokens;
 
-// What follows a token: a number above it and the place after that, the list's end, or neither.
+// What follows a token: a number above it and the place after that, the list's end, or neither. (An Option in an Option
+// would name neither of the last two.)
 #[derive(Clone, Copy)]
 pub enum NextToken {
     Token { value: u16, next: usize },
@@ -18,14 +17,8 @@ pub enum NextToken {
     Bad,
 }
 
-// Tokens that were read and the place after them, or no such tokens.
-#[derive(Clone, Copy)]
-pub enum TokensRead {
-    Read { value: Tokens, next: usize },
-    Bad,
-}
-
 // What follows the token `last` at a place.
+#[tactic(auto, unfolding(crate::specs::TokenLists::next_token))]
 fn next_token(s: &[u8], at: usize, last: u16) -> NextToken
     ensures { result ≡ next_token last s.now at }
 {
@@ -33,129 +26,69 @@ fn next_token(s: &[u8], at: usize, last: u16) -> NextToken
     if comma != b',' {
         return NextToken::End;
     }
-    let Number::Read { value, next } = read_number(s, at + 1, 65535) else {
-        return NextToken::Bad;
-    };
-    if last < value {
-        return NextToken::Token { value, next };
+    match read_number(s, at + 1, 65535) {
+        Some((value, next)) if last < value => NextToken::Token { value, next },
+        _ => NextToken::Bad,
     }
-    NextToken::Bad
 }
 
-// One token more, at the first place that is not used.
-fn with_token(tokens: Tokens, t: u16) -> Tokens
-    requires { tokens.count < 4 }
-    ensures { result ≡ tokens_from (tokens_of tokens ++ (t ∷ [])) }
+// The first so many of four numbers, behind which zeros stand.
+fn tokens_in(numbers: [u16; 4], count: usize) -> Tokens
+    requires { count ≤ 4 }
+    ensures { result ≡ record { t0 = get_or numbers 0 0; t1 = get_or numbers 1 0; t2 = get_or numbers 2 0; t3 = get_or numbers 3 0; count = count } }
 {
-    let n = tokens.count;
-    let t0 = tokens.t0;
-    let t1 = tokens.t1;
-    let t2 = tokens.t2;
-    if n == 0 {
-        return Tokens {
-            t0: t,
-            t1: 0,
-            t2: 0,
-            t3: 0,
-            count: 1,
-        };
-    }
-    if n == 1 {
-        return Tokens {
-            t0,
-            t1: t,
-            t2: 0,
-            t3: 0,
-            count: 2,
-        };
-    }
-    if n == 2 {
-        return Tokens {
-            t0,
-            t1,
-            t2: t,
-            t3: 0,
-            count: 3,
-        };
-    }
+    let [t0, t1, t2, t3] = numbers;
     Tokens {
         t0,
         t1,
         t2,
-        t3: t,
-        count: 4,
+        t3,
+        count: count as u8,
     }
 }
 
 // The numbers behind the first one.
-fn read_more(s: &[u8], at: usize, first: u16) -> TokensRead
-    ensures { as_tokens result ≡ mapped (λ ts. tokens_from (first ∷ ts)) (read_more 3 first) s.now at }
+fn read_more(s: &[u8], at: usize, first: u16) -> Option<(Tokens, usize)>
+    ensures { result ≡ mapped (λ ts. tokens_from (first ∷ ts)) (read_more 3 first) s.now at }
 {
-    let mut tokens = Tokens {
-        t0: first,
-        t1: 0,
-        t2: 0,
-        t3: 0,
-        count: 1,
-    };
-    let mut last = first;
+    let mut numbers = [first, 0, 0, 0];
     let mut next = at;
-    while tokens.count < 4 {
-        let step = next_token(s, next, last);
-        match step {
-            NextToken::Token { value, next: n } => {
-                let more = with_token(tokens, value);
-                tokens = more;
-                last = value;
-                next = n;
+    for i in 1..4 {
+        match next_token(s, next, numbers[i - 1]) {
+            NextToken::Token {
+                value,
+                next: behind,
+            } => {
+                numbers[i] = value;
+                next = behind;
             }
             NextToken::End => {
-                return TokensRead::Read {
-                    value: tokens,
-                    next,
-                };
+                return Some((tokens_in(numbers, i), next));
             }
             NextToken::Bad => {
-                return TokensRead::Bad;
+                return None;
             }
         }
     }
-    TokensRead::Read {
-        value: tokens,
-        next,
-    }
+    Some((tokens_in(numbers, 4), next))
 }
 
 // `-`, or one to four numbers.
-fn read_tokens(s: &[u8], at: usize) -> TokensRead
-    ensures { as_tokens result ≡ read_tokens s.now at }
+#[tactic(auto, unfolding(crate::specs::TokenLists::read_tokens, crate::specs::TokenLists::read_token_list, crate::specs::TokenLists::read_some, crate::specs::TokenLists::tokens_from, text_numbers::specs::Reading::and_then, text_numbers::specs::Reading::mapped))]
+fn read_tokens(s: &[u8], at: usize) -> Option<(Tokens, usize)>
+    ensures { result ≡ read_tokens s.now at }
 {
     let first = byte_at(s, at);
     if first == b'-' {
-        let none = Tokens {
-            t0: 0,
-            t1: 0,
-            t2: 0,
-            t3: 0,
-            count: 0,
-        };
-        return TokensRead::Read {
-            value: none,
-            next: at + 1,
-        };
+        return Some((Tokens::none(), at + 1));
     }
-    let Number::Read { value, next } = read_number(s, at, 65535) else {
-        return TokensRead::Bad;
-    };
+    let (value, next) = read_number(s, at, 65535)?;
     read_more(s, next, value)
 }
 
 // A key, and then tokens.
-pub fn tokens_at(s: &[u8], at: usize, key: &[u8]) -> TokensRead
-    ensures { as_tokens result ≡ keyed key.now read_tokens s.now at }
+pub fn tokens_at(s: &[u8], at: usize, key: &[u8]) -> Option<(Tokens, usize)>
+    ensures { result ≡ keyed key.now read_tokens s.now at }
 {
-    if starts_with(s, at, key) {
-        return read_tokens(s, at + key.len());
-    }
-    TokensRead::Bad
+    keyed(s, at, key, |next| read_tokens(s, next))
 }

@@ -1,3 +1,2 @@
 pub mod Types
 pub mod Words
-pub mod Inner

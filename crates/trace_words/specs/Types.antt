@@ -10,4 +10,3 @@ pub use Rattle.flow_table.specs.declared.carried.Carried.{Carried}
 pub use Rattle.trace_words.specs.declared.word.Word.{Word}
 pub use Rattle.trace_words.specs.declared.word.SwitchWord.{SwitchWord}
 pub use Rattle.trace_words.specs.declared.word.Write.{Write}
-pub use Rattle.trace_words.specs.declared.read.WordRead.{WordRead}

@@ -1,6 +1,5 @@
 -- Document 01, "Trace text": the words of `do`.
-use Rattle.std.specs.Prelude.{List, [], ◌∷◌, ◌++◌, map, ℕ}
-use Rattle.std.proofs.Math.Option.{none}
+use Rattle.std.specs.Prelude.{List, [], ◌∷◌, ◌++◌, map, ℕ, None}
 use Rattle.basics.specs.Text.{bytes}
 use Rattle.text_numbers.specs.Reading.{Reader, word_or}
 use Rattle.trace_words.specs.Types.{Entry, Origin, TableOperation, Operation, Word, SwitchWord, Write}
@@ -51,7 +50,7 @@ print_word w = word_text w ++ bytes " "
 
 -- the first of some words whose text stands at the place
 unfoldable pub read_one_of : List Word → Reader Word
-read_one_of [] = λ s at. none
+read_one_of [] = λ s at. None
 read_one_of (w ∷ ws) = word_or (print_word w) w (read_one_of ws)
 
 abbrev pub write_words : List SwitchWord

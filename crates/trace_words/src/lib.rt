@@ -4,5 +4,5 @@
 pub mod read; // a word's text
 pub mod word; // a word and its operations
 
-pub use read::{WordRead, word_at};
+pub use read::word_at;
 pub use word::{SwitchWord, Word, Write, word_of, write_of};

@@ -1,94 +1,35 @@
 // The word of `do`, with the space that ends it, from a place of a line on.
-ghost use Rattle.std.specs.Prelude.{◌≡◌, map};
+ghost use Rattle.std.specs.Prelude.{◌≡◌};
 ghost use Rattle.basics.specs.Text.{bytes};
-ghost use Rattle.text_numbers.specs.Reading.{keyed, word_or};
-ghost use Rattle.trace_words.specs.Words.{write_words, read_one_of, read_word};
-ghost use Rattle.trace_words.specs.Inner.{as_word};
+ghost use Rattle.text_numbers.specs.Reading.{keyed};
+ghost use Rattle.trace_words.specs.Words.{read_word};
 
 use crate::word::{SwitchWord, Word, Write};
 use flow_table::Origin;
-use text_numbers::starts_with;
-
-// A word that was read and the place after its space, or no such word.
-#[derive(Clone, Copy)]
-pub enum WordRead {
-    Read { value: Word, next: usize },
-    Bad,
-}
-
-// The word where its text stands at the place, else the other answer.
-fn word_or(s: &[u8], at: usize, text: &[u8], value: Word, other: WordRead) -> WordRead
-    ensures { as_word result ≡ word_or text.now value (λ t n. as_word other) s.now at }
-{
-    if starts_with(s, at, text) {
-        return WordRead::Read {
-            value,
-            next: at + text.len(),
-        };
-    }
-    other
-}
-
-// Any of the six writes.
-fn write_word(s: &[u8], at: usize) -> WordRead
-    ensures { as_word result ≡ read_one_of (map Word.On write_words) s.now at }
-{
-    let r = word_or(s, at, b"deln ", Word::On(SwitchWord::Delete), WordRead::Bad);
-    let r = word_or(s, at, b"dels ", Word::On(SwitchWord::DeleteStrict), r);
-    let r = word_or(
-        s,
-        at,
-        b"modn ",
-        Word::On(SwitchWord::Write(Write::Modify)),
-        r,
-    );
-    let r = word_or(
-        s,
-        at,
-        b"mods ",
-        Word::On(SwitchWord::Write(Write::ModifyStrict)),
-        r,
-    );
-    let r = word_or(
-        s,
-        at,
-        b"addc ",
-        Word::On(SwitchWord::Write(Write::AddChecked)),
-        r,
-    );
-    word_or(s, at, b"add ", Word::On(SwitchWord::Write(Write::Add)), r)
-}
+use text_numbers::{keyed, word};
 
 // Any of the eleven.
-fn read_word(s: &[u8], at: usize) -> WordRead
-    ensures { as_word result ≡ read_word s.now at }
+#[tactic(auto, unfolding(crate::specs::Words::read_word, crate::specs::Words::read_one_of, text_numbers::specs::Reading::word_or))]
+fn read_word(s: &[u8], at: usize) -> Option<(Word, usize)>
+    ensures { result ≡ read_word s.now at }
 {
-    let r = write_word(s, at);
-    let r = word_or(
-        s,
-        at,
-        b"pout ",
-        Word::On(SwitchWord::Packet(Origin::SentOut)),
-        r,
-    );
-    let r = word_or(
-        s,
-        at,
-        b"pkt ",
-        Word::On(SwitchWord::Packet(Origin::Received)),
-        r,
-    );
-    let r = word_or(s, at, b"msg ", Word::On(SwitchWord::Message), r);
-    let r = word_or(s, at, b"bar ", Word::On(SwitchWord::Barrier), r);
-    word_or(s, at, b"oth ", Word::Other, r)
+    let on = |text: &[u8], value: SwitchWord| word(s, at, text, Word::On(value));
+    word(s, at, b"oth ", Word::Other)
+        .or_else(|| on(b"bar ", SwitchWord::Barrier))
+        .or_else(|| on(b"msg ", SwitchWord::Message))
+        .or_else(|| on(b"pkt ", SwitchWord::Packet(Origin::Received)))
+        .or_else(|| on(b"pout ", SwitchWord::Packet(Origin::SentOut)))
+        .or_else(|| on(b"add ", SwitchWord::Write(Write::Add)))
+        .or_else(|| on(b"addc ", SwitchWord::Write(Write::AddChecked)))
+        .or_else(|| on(b"mods ", SwitchWord::Write(Write::ModifyStrict)))
+        .or_else(|| on(b"modn ", SwitchWord::Write(Write::Modify)))
+        .or_else(|| on(b"dels ", SwitchWord::DeleteStrict))
+        .or_else(|| on(b"deln ", SwitchWord::Delete))
 }
 
 // ` do=`, and then a word.
-pub fn word_at(s: &[u8], at: usize) -> WordRead
-    ensures { as_word result ≡ keyed (bytes " do=") read_word s.now at }
+pub fn word_at(s: &[u8], at: usize) -> Option<(Word, usize)>
+    ensures { result ≡ keyed (bytes " do=") read_word s.now at }
 {
-    if starts_with(s, at, b" do=") {
-        return read_word(s, at + 4);
-    }
-    WordRead::Bad
+    keyed(s, at, b" do=", |next| read_word(s, next))
 }

@@ -25,6 +25,7 @@ pub enum SwitchWord {
     Delete,
 }
 
+// No `Option`: `oth` is a word too, and stands in a line where no switch does.
 #[derive(Clone, Copy)]
 pub enum Word {
     Other,

@@ -13,7 +13,7 @@ use Rattle.order_rows.specs.Runs.{recorded}
 use Rattle.order_trials.specs.Trials.{order_count, order_at, order_byte, order_bytes}
 use Rattle.order_trials.proofs.Counting.{singles_length, bytes_length}
 use Rattle.slots_run.specs.Inner.{EndsAs}
-use Rattle.trials_call.specs.Types.{Event, Row, Ended}
+use Rattle.trials_call.specs.Types.{Event, Row, Ended, Steps, State}
 use Rattle.trials_call.specs.Inner.{From, Ready}
 
 -- ---- the first k bytes are written
@@ -46,7 +46,7 @@ module _ (delay : ℕ) (es : List Event) (start : Tables) (os old : List ℕ) {n
       ∙ (λ i. gather (λ j. byte (length es) j ∷ []) (whole i) ++ drop (sym size i) old)
 
 -- ---- what the recorded order leaves
-pub recorded_ends : (delay : ℕ) (es : List Event) (rs : List Row) (n : ℕ) (earlier masks plans : List (List ℕ)) (priorities set codes : List ℕ) (end : Ended)
-    (f : From delay es rs n earlier masks plans priorities set codes) → {o : List ℕ} → o ≡ recorded es → EndsAs es f.slots o set codes end
-    → Ready delay es rs n earlier masks plans priorities set codes end
-recorded_ends delay es rs n earlier masks plans priorities set codes end f p e = record { start = f; ends = subst (λ o. EndsAs es f.slots o set codes end) p e }
+pub recorded_ends : (delay : ℕ) (es : List Event) (rs : List Row) (n : ℕ) (earlier : List (List ℕ)) (steps : Steps) (begun : State) (end : Ended)
+    (f : From delay es rs n earlier steps begun) → {o : List ℕ} → o ≡ recorded es → EndsAs es f.slots o begun end
+    → Ready delay es rs n earlier steps begun end
+recorded_ends delay es rs n earlier steps begun end f p e = record { start = f; ends = subst (λ o. EndsAs es f.slots o begun end) p e }

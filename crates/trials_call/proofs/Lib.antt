@@ -1,4 +1,4 @@
 pub mod Leaving
 pub mod OneOrder
 pub mod EachOrder
-pub mod Shared
+pub mod Once

@@ -1,9 +1,9 @@
 -- The types that this crate's definitions speak of, under one name each.
 pub use Rattle.refusals.specs.declared.refusal.Refusal.{Refusal}
-pub use Rattle.refusals.specs.declared.refusal.Outcome.{Outcome}
 pub use Rattle.trace_events.specs.declared.event.Event.{Event}
 pub use Rattle.trace_events.specs.declared.trace.Trace.{Trace}
 pub use Rattle.rows.specs.declared.row.Row.{Row}
 pub use Rattle.rows.specs.declared.row.Rows.{Rows}
 pub use Rattle.slots_run.specs.declared.running.Ended.{Ended}
-pub use Rattle.call_answers.specs.declared.trials.TrialsAnswer.{TrialsAnswer}
+pub use Rattle.slots.specs.declared.plan.Steps.{Steps}
+pub use Rattle.slots.specs.declared.plan.State.{State}

@@ -4,7 +4,7 @@ use mathlib.Core.Path.{◌≡◌, refl, sym, ap, ◌∙◌}
 use mathlib.Core.Bool.{Bool, true, false, not}
 use mathlib.Core.Logic.{◌↔◌, ◌⊎◌, inl, inr, ⊎_elim}
 use mathlib.Core.List.{List, [], ◌∷◌}
-use mathlib.Core.Option.{Option, none, some}
+use Rattle.std.specs.Prelude.{Option, None, Some, Ok, Err}
 use Prim.Native.Nat.{ℕ}
 use native.Mathlib.Decide.{dec_lt}
 use native.Mathlib.Omega.{arith}
@@ -42,27 +42,27 @@ use Rattle.trials_meaning.specs.Types.{Refusal, Event, Row}
 use Rattle.trials_meaning.specs.Single.{OrderRefused}
 
 -- an event that doesn't stand in an order has no answer in it
-none_given : (es : List Event) (o : List ℕ) (start : Tables) (i : ℕ) → has i o ≡ false → answers (operation_at es) o start i ≡ none
+none_given : (es : List Event) (o : List ℕ) (start : Tables) (i : ℕ) → has i o ≡ false → answers (operation_at es) o start i ≡ None
 none_given es [] start i h = refl
 none_given es (j ∷ o) start i h = rw (or_left (eqb i j) (has i o) h) (none_given es o (step_of (operation_at es j) start) i (or_right (eqb i j) (has i o) h))
 
 -- 21 and 22 are what an order is refused by
-pub order_numbers : (delay : ℕ) (es : List Event) (o : List ℕ) (r : Refusal) → check_order delay es o ≡ inl r → (number_of r ≡ 21) ⊎ (number_of r ≡ 22)
+pub order_numbers : (delay : ℕ) (es : List Event) (o : List ℕ) (r : Refusal) → check_order delay es o ≡ Err r → (number_of r ≡ 21) ⊎ (number_of r ≡ 22)
 unfolding check_order
 order_numbers delay es o r = go (complete (length es) o) (first_early delay es o)
   where
-    go : (b : Bool) (p : Option ℕ) → (refuse_if (not b) Refusal.OrderIncomplete ▹ λ _. refuse_at p Refusal.EventTooEarly) ≡ inl r → (number_of r ≡ 21) ⊎ (number_of r ≡ 22)
+    go : (b : Bool) (p : Option ℕ) → (refuse_if (not b) Refusal.OrderIncomplete ▹ λ _. refuse_at p Refusal.EventTooEarly) ≡ Err r → (number_of r ≡ 21) ⊎ (number_of r ≡ 22)
     go false p e = inl (ap number_of (sym (let q : Refusal.OrderIncomplete ≡ r = cc in q)))
-    go true (some k) e = inr (ap number_of (sym (let q : Refusal.EventTooEarly k ≡ r = cc in q)))
-    go true none e = absurd (accepts e)
+    go true (Some k) e = inr (ap number_of (sym (let q : Refusal.EventTooEarly k ≡ r = cc in q)))
+    go true None e = absurd (accepts e)
 
-module _ (delay : ℕ) (s t : List ℕ) (es : List Event) (rs : List Row) (trace : read_trace delay s ≡ inr es) (tables : read_tables t ≡ inr rs) where
+module _ (delay : ℕ) (s t : List ℕ) (es : List Event) (rs : List Row) (trace : read_trace delay s ≡ Ok es) (tables : read_tables t ≡ Ok rs) where
   -- the rows of accepted tables, and the events of an accepted trace
   held : Held es rs
   held = record { sorted = accepted_sorted t rs tables; switches = λ i. (events_in_range delay s es trace i).switch; beyond = accepted_beyond t rs tables }
 
-  module _ (o q : List ℕ) (order : check_order delay es o ≡ inr tt) (other : check_order delay es q ≡ inr tt) where
-    whole : (p : List ℕ) → check_order delay es p ≡ inr tt → IsOrderOf (length es) p
+  module _ (o q : List ℕ) (order : check_order delay es o ≡ Ok tt) (other : check_order delay es q ≡ Ok tt) where
+    whole : (p : List ℕ) → check_order delay es p ≡ Ok tt → IsOrderOf (length es) p
     whole p e = accepted_complete delay es p e
 
     pub agreeing_texts_iff : (agreeing es (tables_of rs) o q ≡ true) ↔ (texts_of es o (tables_of rs) ≡ texts_of es q (tables_of rs))
@@ -81,37 +81,37 @@ module _ (delay : ℕ) (s t : List ℕ) (es : List Event) (rs : List Row) (trace
 
   module _ (o : List ℕ) (room room' : ℕ) where
     -- a refused order is what the replay refuses
-    pub refused_told : (r : Refusal) → check_order delay es o ≡ inl r → replayed delay s t o room room' ≡ inl r
+    pub refused_told : (r : Refusal) → check_order delay es o ≡ Err r → replayed delay s t o room room' ≡ Err r
     unfolding replayed
     refused_told r e = rw (trace, tables, e) refl
 
     -- an accepted order isn't refused by 21 or 22
-    pub never_refused : check_order delay es o ≡ inr tt → OrderRefused delay s t o room room' → ⊥
+    pub never_refused : check_order delay es o ≡ Ok tt → OrderRefused delay s t o room room' → ⊥
     never_refused e (r, p, n) = go (ltb room (length x.tables)) (ltb room' (length x.answers)) (sym (only_rooms delay s t o es rs trace tables e room room') ∙ p)
       where
         x : Replayed
         x = texts_of es o (tables_of rs)
 
-        go : (a b : Bool) → (refuse_if a (Refusal.TablesShort (length x.tables)) ▹ λ _. refuse_if b (Refusal.AnswersShort (length x.answers)) ▹ λ _. inr x) ≡ inl r → ⊥
+        go : (a b : Bool) → (refuse_if a (Refusal.TablesShort (length x.tables)) ▹ λ _. refuse_if b (Refusal.AnswersShort (length x.answers)) ▹ λ _. Ok x) ≡ Err r → ⊥
         go true b g = let q : Refusal.TablesShort (length x.tables) ≡ r = cc in ⊎_elim (λ m. omega (arith, ap number_of q, m)) (λ m. omega (arith, ap number_of q, m)) n
         go false true g = let q : Refusal.AnswersShort (length x.answers) ≡ r = cc in ⊎_elim (λ m. omega (arith, ap number_of q, m)) (λ m. omega (arith, ap number_of q, m)) n
         go false false g = accepts g
 
     -- what is written is the texts of an accepted order
-    pub writes_texts : (x : Replayed) → replayed delay s t o room room' ≡ inr x → (check_order delay es o ≡ inr tt) × (texts_of es o (tables_of rs) ≡ x)
+    pub writes_texts : (x : Replayed) → replayed delay s t o room room' ≡ Ok x → (check_order delay es o ≡ Ok tt) × (texts_of es o (tables_of rs) ≡ x)
     writes_texts x e = by (check_order delay es o) refl
       where
-        fits : check_order delay es o ≡ inr tt → texts_of es o (tables_of rs) ≡ x
+        fits : check_order delay es o ≡ Ok tt → texts_of es o (tables_of rs) ≡ x
         fits a = go (ltb room (length y.tables)) (ltb room' (length y.answers)) (sym (only_rooms delay s t o es rs trace tables a room room') ∙ e)
           where
             y : Replayed
             y = texts_of es o (tables_of rs)
 
-            go : (a b : Bool) → (refuse_if a (Refusal.TablesShort (length y.tables)) ▹ λ _. refuse_if b (Refusal.AnswersShort (length y.answers)) ▹ λ _. inr y) ≡ inr x → y ≡ x
+            go : (a b : Bool) → (refuse_if a (Refusal.TablesShort (length y.tables)) ▹ λ _. refuse_if b (Refusal.AnswersShort (length y.answers)) ▹ λ _. Ok y) ≡ Ok x → y ≡ x
             go true b g = refuses g
             go false true g = refuses g
             go false false g = same_value g
 
-        by : (c : Checked (Unit {0})) → check_order delay es o ≡ c → (check_order delay es o ≡ inr tt) × (texts_of es o (tables_of rs) ≡ x)
-        by (inl r) p = refuses (sym (refused_told r p) ∙ e)
-        by (inr u) p = (p, fits p)
+        by : (c : Checked (Unit {0})) → check_order delay es o ≡ c → (check_order delay es o ≡ Ok tt) × (texts_of es o (tables_of rs) ≡ x)
+        by (Err r) p = refuses (sym (refused_told r p) ∙ e)
+        by (Ok u) p = (p, fits p)

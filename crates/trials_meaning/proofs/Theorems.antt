@@ -1,8 +1,9 @@
 -- The bytes that the call writes are those that single replays would lead to (`bytes_of`), and an allowed order of demand 3 has 0
 -- (`byte_of`, its last field). Assumes nothing.
+use Rattle.std.specs.Prelude.{Ok, Err}
 use mathlib.Core.Path.{◌≡◌, refl, sym, ap, ◌∙◌, subst}
 use mathlib.Core.Bool.{Bool, true, false, false≢true}
-use mathlib.Core.Logic.{◌↔◌, inl, inr}
+use mathlib.Core.Logic.{◌↔◌}
 use mathlib.Core.List.{List}
 use Prim.Native.Nat.{ℕ}
 use native.Mathlib.Omega.{arith}
@@ -33,23 +34,23 @@ use Rattle.trials_meaning.specs.Single.{OrderRefused, ByteOf, BytesOf}
 use Rattle.trials_meaning.proofs.Texts.{order_numbers, agreeing_texts_iff, refused_told, never_refused, writes_texts}
 
 -- ---- the byte by its two tests
-two_refused : (c : Checked (Unit {0})) (b : Bool) → byte_by c b ≡ 2 → (r : Refusal) × (c ≡ inl r)
-two_refused (inl r) b e = (r, refl)
-two_refused (inr u) true e = absurd (omega arith)
-two_refused (inr u) false e = absurd (omega arith)
+two_refused : (c : Checked (Unit {0})) (b : Bool) → byte_by c b ≡ 2 → (r : Refusal) × (c ≡ Err r)
+two_refused (Err r) b e = (r, refl)
+two_refused (Ok u) true e = absurd (omega arith)
+two_refused (Ok u) false e = absurd (omega arith)
 
-zero_iff : (b : Bool) → (byte_by (inr tt) b ≡ 0) ↔ (b ≡ true)
+zero_iff : (b : Bool) → (byte_by (Ok tt) b ≡ 0) ↔ (b ≡ true)
 zero_iff true = (λ e. refl, λ e. refl)
 zero_iff false = (λ e. absurd (omega arith), λ e. absurd (false≢true e))
 
-one_iff : (b : Bool) → (byte_by (inr tt) b ≡ 1) ↔ (b ≡ true → ⊥)
+one_iff : (b : Bool) → (byte_by (Ok tt) b ≡ 1) ↔ (b ≡ true → ⊥)
 one_iff true = (λ e. absurd (omega arith), λ f. absurd (f refl))
 one_iff false = (λ e f. false≢true f, λ f. refl)
 
-module _ (delay : ℕ) (s t : List ℕ) (es : List Event) (rs : List Row) (trace : read_trace delay s ≡ inr es) (tables : read_tables t ≡ inr rs) where
+module _ (delay : ℕ) (s t : List ℕ) (es : List Event) (rs : List Row) (trace : read_trace delay s ≡ Ok es) (tables : read_tables t ≡ Ok rs) where
   module _ (o : List ℕ) where
     -- the byte of an accepted order
-    accepted_byte : check_order delay es o ≡ inr tt → order_byte delay es (tables_of rs) o ≡ byte_by (inr tt) (agreeing es (tables_of rs) o (recorded es))
+    accepted_byte : check_order delay es o ≡ Ok tt → order_byte delay es (tables_of rs) o ≡ byte_by (Ok tt) (agreeing es (tables_of rs) o (recorded es))
     unfolding order_byte
     accepted_byte e = rw e refl
 
@@ -61,12 +62,12 @@ module _ (delay : ℕ) (s t : List ℕ) (es : List Event) (rs : List Row) (trace
     )
       where
         by : (c : Checked (Unit {0})) → check_order delay es o ≡ c → OrderRefused delay s t o room room' → byte_by c (agreeing es (tables_of rs) o (recorded es)) ≡ 2
-        by (inl r) p h = refl
-        by (inr u) p h = absurd (never_refused delay s t es rs trace tables o room room' p h)
+        by (Err r) p h = refl
+        by (Ok u) p h = absurd (never_refused delay s t es rs trace tables o room room' p h)
 
     -- where both replays write their texts
-    module _ (room room' other other' : ℕ) (x y : Replayed) (e : replayed delay s t o room room' ≡ inr x) (f : replayed delay s t (recorded es) other other' ≡ inr y) where
-      order : (check_order delay es o ≡ inr tt) × (texts_of es o (tables_of rs) ≡ x)
+    module _ (room room' other other' : ℕ) (x y : Replayed) (e : replayed delay s t o room room' ≡ Ok x) (f : replayed delay s t (recorded es) other other' ≡ Ok y) where
+      order : (check_order delay es o ≡ Ok tt) × (texts_of es o (tables_of rs) ≡ x)
       order = writes_texts delay s t es rs trace tables o room room' x e
 
       first : texts_of es (recorded es) (tables_of rs) ≡ y
@@ -98,7 +99,7 @@ module _ (delay : ℕ) (s t : List ℕ) (es : List Event) (rs : List Row) (trace
     byte_of = record { two = two_iff; zero = byte_zero; one = byte_one; allowed = allowed_zero }
 
   -- THE bytes of the call
-  pub bytes_of : (os : List ℕ) (room : ℕ) (bytes : List ℕ) → tried delay s t os room ≡ inr bytes → BytesOf delay s t os es bytes
+  pub bytes_of : (os : List ℕ) (room : ℕ) (bytes : List ℕ) → tried delay s t os room ≡ Ok bytes → BytesOf delay s t os es bytes
   unfolding tried
   bytes_of os room bytes e = go (uneven (length es) (length os)) refl (ltb room (length all)) (sym (rw (trace, tables) refl) ∙ e)
     where
@@ -115,7 +116,7 @@ module _ (delay : ℕ) (s t : List ℕ) (es : List Event) (rs : List Row) (trace
         each = λ k h. subst (ByteOf delay s t es (order_at (length es) os k)) (sym (byte_at delay es (tables_of rs) os k (omega (arith, count)))) (byte_of (order_at (length es) os k));
       }
 
-      go : (u : Bool) → uneven (length es) (length os) ≡ u → (l : Bool) → (refuse_if u Refusal.OrdersUneven ▹ λ _. refuse_if l (Refusal.TrialsShort (length all)) ▹ λ _. inr all) ≡ inr bytes → BytesOf delay s t os es bytes
+      go : (u : Bool) → uneven (length es) (length os) ≡ u → (l : Bool) → (refuse_if u Refusal.OrdersUneven ▹ λ _. refuse_if l (Refusal.TrialsShort (length all)) ▹ λ _. Ok all) ≡ Ok bytes → BytesOf delay s t os es bytes
       go true p l f = refuses f
       go false p true f = refuses f
       go false p false f = subst (BytesOf delay s t os es) (same_value f) (made p)

@@ -1,6 +1,5 @@
 -- Document 01, "Many orders": the bytes are those that single replays would lead to.
-use Rattle.std.specs.Prelude.{◌≡◌, List, ◌↔◌, ◌⊎◌, ℕ, ◌<◌, length, get_or}
-use Rattle.std.proofs.Common.{inl, inr}
+use Rattle.std.specs.Prelude.{◌≡◌, List, ◌↔◌, ◌⊎◌, ℕ, ◌<◌, length, get_or, Ok, Err}
 use Rattle.basics.specs.Searches.{gather}
 use Rattle.refusals.specs.Refusals.{number_of}
 use Rattle.order_rows.specs.Runs.{recorded}
@@ -12,16 +11,16 @@ use Rattle.trials_meaning.specs.Types.{Refusal, Event}
 
 -- a single replay of an order, into buffers of these lengths, is refused by 21 or 22
 abbrev pub OrderRefused : ℕ → List ℕ → List ℕ → List ℕ → ℕ → ℕ → Type 0
-OrderRefused delay s t o room room' = (r : Refusal) × (replayed delay s t o room room' ≡ inl r) × ((number_of r ≡ 21) ⊎ (number_of r ≡ 22))
+OrderRefused delay s t o room room' = (r : Refusal) × (replayed delay s t o room room' ≡ Err r) × ((number_of r ≡ 21) ⊎ (number_of r ≡ 22))
 
 -- the byte b of order o
 pub record ByteOf (delay : ℕ) (s t : List ℕ) (es : List Event) (o : List ℕ) (b : ℕ) : Type 0 where
   -- 2 exactly if a single replay of the order is refused by 21 or 22, whatever its buffers
   pub two : (room room' : ℕ) → (b ≡ 2) ↔ OrderRefused delay s t o room room'
   -- 0 exactly if the single replays of the order and of the recorded order, where none is refused, write the same two texts
-  pub zero : (room room' other other' : ℕ) (x y : Replayed) → replayed delay s t o room room' ≡ inr x → replayed delay s t (recorded es) other other' ≡ inr y → (b ≡ 0) ↔ (x ≡ y)
+  pub zero : (room room' other other' : ℕ) (x y : Replayed) → replayed delay s t o room room' ≡ Ok x → replayed delay s t (recorded es) other other' ≡ Ok y → (b ≡ 0) ↔ (x ≡ y)
   -- 1 exactly if these texts differ
-  pub one : (room room' other other' : ℕ) (x y : Replayed) → replayed delay s t o room room' ≡ inr x → replayed delay s t (recorded es) other other' ≡ inr y → (b ≡ 1) ↔ (x ≡ y → ⊥)
+  pub one : (room room' other other' : ℕ) (x y : Replayed) → replayed delay s t o room room' ≡ Ok x → replayed delay s t (recorded es) other other' ≡ Ok y → (b ≡ 1) ↔ (x ≡ y → ⊥)
   -- an order that demand 3 speaks of has 0
   pub allowed : Allowed delay es o → b ≡ 0
 

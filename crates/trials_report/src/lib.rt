@@ -26,11 +26,9 @@ pub fn put_results(out: &mut [u8], first: usize, results: &[u8]) -> usize
     ensures put { Put (result_lines first results.now) 0 out.old result out.new }
     ensures upper_bound { result ≤ 25 * length results.now }
 {
-    let mut at: usize = 0;
-    let mut i: usize = 0;
-    while i < results.len() {
-        at = put_result(out, at, first + i, results[i]);
-        i = i + 1;
+    let mut at = 0;
+    for (i, result) in results.iter().enumerate() {
+        at = put_result(out, at, first + i, *result);
     }
     at
 }

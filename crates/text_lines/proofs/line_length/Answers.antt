@@ -1,12 +1,10 @@
-use mathlib.Core.Path.{sym, ◌∙◌}
-use Rattle.text_lines.proofs.Laws.{length_end, length_here, length_on}
+use Rattle.std.proofs.Common.{rules, ◌≡◌, sym, ◌∙◌}
+use borrow.Author.Tests.{tests}
+use Rattle.std.proofs.lemmas.Iterator.{IsFirst-from_position, YieldsList-from_slice}
+use Rattle.text_lines.proofs.Laws.{length_found}
 use Rattle.text_lines.proofs.line_length.Goals as goal
 
-pub returns-then-s-i-eq-LF : goal.returns-then-s-i-eq-LF
-returns-then-s-i-eq-LF c = sym (c.loop-i.invariant ∙ length_here _ _ c.loop-i-test.true c.if-s-i-eq-LF.true)
-
-pub loop-i-preserved : goal.loop-i-preserved
-loop-i-preserved c = c.loop-i.invariant ∙ length_on _ _ c.loop-i-test.true c.if-s-i-eq-LF.false
-
 pub returns : goal.returns
-returns c = sym (c.loop-i.invariant ∙ length_end _ _ c.loop-i-test.false)
+returns c =
+    c.unwrap_or.ensures
+    ∙ sym (length_found _ _ (IsFirst-from_position _ _ _ (λ b. b ≡ 10) (λ b. b ≡ 10 → ⊥) c.position.ensures.ran (YieldsList-from_slice c.args.s.now cc) (λ x q k. search (rules, tests)) (λ x q k. search (rules, tests))))

@@ -5,8 +5,5 @@ use lib.ListN.{drop}
 use Rattle.text_lines.specs.Lines.{line_start}
 use Rattle.text_lines.proofs.line_start.Given as goal
 
-abbrev pub invariant-loop-i : goal.invariant-loop-i
-invariant-loop-i l = line_start l.text l.number ≡ l.at + line_start (drop l.at l.text) (l.number - l.i)
-
-abbrev pub decreases-loop-i : goal.decreases-loop-i
-decreases-loop-i l = l.number - l.i
+abbrev pub invariant-loop : goal.invariant-loop
+invariant-loop l = line_start l.text l.number ≡ l.at + line_start (drop l.at l.text) (l.number - l.counter)

@@ -11,6 +11,3 @@ abbrev pub invariant-loop-i : goal.invariant-loop-i
 invariant-loop-i l =
     (l.i ≤ length l.results) × (l.at ≤ 25 * l.i) × (l.first ≤ 2 ^ 21) × (length l.results ≤ 4096)
     × ((w : List ℕ) × Put w 0 l.initial.out l.at l.out × (w ++ result_lines (l.first + l.i) (drop l.i l.results) ≡ result_lines l.first l.results))
-
-abbrev pub decreases-loop-i : goal.decreases-loop-i
-decreases-loop-i l = length l.results - l.i

@@ -1,14 +1,12 @@
-use Rattle.bit_sets.proofs.NextLaws.{passed_none, passed_word, found, none_left}
+use native.Mathlib.Omega.{arith}
+use Rattle.bit_sets.proofs.NextLaws.{found, passed_word, none_left}
 use Rattle.bit_sets.proofs.search.next.Goals as goal
 
-pub loop-i-init : goal.loop-i-init
-loop-i-init c = passed_none _ _ c.requires
+pub returns-in-Some : goal.returns-in-Some
+returns-in-Some g c = found _ _ _ _ c.loop-w.invariant (omega arith) c.in-Some.bit c.in-Some.ensures
 
-pub returns-then-bit-lt64 : goal.returns-then-bit-lt64
-returns-then-bit-lt64 c = found _ _ _ _ c.loop-i.invariant c.loop-i-test.true c.next_bit-bit.ensures c.if-bit-lt64.true
-
-pub loop-i-preserved : goal.loop-i-preserved
-loop-i-preserved c = passed_word _ _ _ _ c.loop-i.invariant c.loop-i-test.true c.next_bit-bit.ensures c.if-bit-lt64.false
+pub loop-w-preserved : goal.loop-w-preserved
+loop-w-preserved g c = passed_word _ _ _ _ c.loop-w.invariant c.in_default.ensures
 
 pub returns : goal.returns
-returns c = none_left _ _ _ c.requires c.loop-i.invariant c.loop-i-test.false
+returns g c = none_left _ _ _ _ c.loop-w.invariant (omega arith)

@@ -1,10 +1,6 @@
--- The invariant: no member from the start on before i.
-use Prim.Native.Nat.{◌-◌}
+-- The invariant: no member from the start on before the place in word w.
 use Rattle.bit_sets.proofs.NextLaws.{Passed}
 use Rattle.bit_sets.proofs.search.next.Given as goal
 
-abbrev pub invariant-loop-i : goal.invariant-loop-i
-invariant-loop-i l = Passed l.set l.from l.i
-
-abbrev pub decreases-loop-i : goal.decreases-loop-i
-decreases-loop-i l = 512 - l.i
+abbrev pub invariant-loop-w : goal.invariant-loop-w
+invariant-loop-w g l = Passed l.set l.from l.w l.place

@@ -1,6 +1,6 @@
-use borrow.Author.Rules.{rules}
-use Rattle.bit_sets.proofs.Members.{and_member}
+use native.Mathlib.Omega.{arith}
+use Rattle.bit_sets.proofs.Members.{all_words, and_member}
 use Rattle.bit_sets.proofs.sets.common.Goals as goal
 
 pub returns : goal.returns
-returns c k = and_member c.args.a c.args.b 8 (search rules) (search rules) k
+returns g c = and_member _ _ _ _ (all_words _ _ _ _ _ _ c.loop-w.invariant (omega arith))

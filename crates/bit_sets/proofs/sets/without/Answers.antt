@@ -1,6 +1,11 @@
+use Prim.Native.Nat.{ℕ, ◌^◌, ◌<◌}
 use borrow.Author.Rules.{rules}
-use Rattle.bit_sets.proofs.Members.{without_member}
+use native.Mathlib.Omega.{arith}
+use lib.ListN.{get_or}
+use Rattle.bit_sets.proofs.Members.{all_words, without_member}
 use Rattle.bit_sets.proofs.sets.without.Goals as goal
 
 pub returns : goal.returns
-returns c k = without_member c.args.a c.args.b c.common-shared.result 8 (search rules) (search rules) c.common-shared.ensures k
+returns g c =
+    let word : (w : ℕ) → get_or c.args.b w 0 < 2 ^ 64 = λ w. search rules in
+    without_member _ _ _ _ word (all_words _ _ _ _ _ _ c.loop-w.invariant (omega arith))

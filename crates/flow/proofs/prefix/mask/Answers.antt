@@ -16,11 +16,11 @@ shifted n p e = (
 )
 
 pub overflow_sub-result : goal.overflow_sub-result
-overflow_sub-result c = omega (arith, shifted _ _ c.bits_past-past.ensures)
+overflow_sub-result c = omega (arith, shifted _ _ c.saturating_sub-past.ensures)
 
 pub overflow_cast-result-2 : goal.overflow_cast-result-2
-overflow_cast-result-2 c = let h = shifted _ _ c.bits_past-past.ensures in record { fits = omega arith }
+overflow_cast-result-2 c = let h = shifted _ _ c.saturating_sub-past.ensures in record { fits = omega arith }
 
 pub returns : goal.returns
 unfolding mask_of
-returns c = omega (arith, shifted _ _ c.bits_past-past.ensures)
+returns c = omega (arith, shifted _ _ c.saturating_sub-past.ensures)

@@ -18,27 +18,35 @@ use Rattle.happens_before.specs.Causality.{through}
 use Rattle.happens_before.proofs.closure.happens_before.Goals as goal
 
 pub loop-j-init : goal.loop-j-init
-loop-j-init c = (omega arith, search (rules, length_mapped), refl, filled_none _ _ 256, refl, λ k l. absurd (omega arith), refl, λ k l h. absurd (omega arith))
+loop-j-init c = record {
+  events = search (rules, length_mapped);
+  rows = refl;
+  filled = filled_none _ _ 256;
+  sides = refl;
+  noted = λ k l. absurd (omega arith);
+  barred = refl;
+  earliest = λ k l h. absurd (omega arith);
+}
 
 pub loop-k-init : goal.loop-k-init
 loop-k-init c =
     let fits : c.args.t.len ≤ length c.args.t.events = omega (arith, c.requires) in (
-      rw c.search_from-from.ensures (from_within _ _ _ _ _),
-      λ i. member_none 4 i ∙ none_below c.args.delay c.args.t fits c.loop-j.j (omega arith) c.side-later.ensures c.loop-j.invariant.6 c.loop-j.invariant.7 i ∙ ap (any_below (through c.args.delay (events_of c.args.t) i _)) (sym c.search_from-from.ensures),
+      rw c.search_from-k.ensures (from_within _ _ _ _ _),
+      λ i. member_none 4 i ∙ none_below c.args.delay c.args.t fits c.loop-j.j (omega arith) c.side-later.ensures c.loop-j.invariant.barred c.loop-j.invariant.earliest i ∙ ap (any_below (through c.args.delay (events_of c.args.t) i _)) (sym c.search_from-k.ensures),
     )
 
 pub loop-k-preserved-then-steps_to : goal.loop-k-preserved-then-steps_to
 loop-k-preserved-then-steps_to c =
     let fits : c.args.t.len ≤ length c.args.t.events = omega (arith, c.requires) in
-    let is = a_step c.args.delay c.args.t fits c.loop-j.sides c.loop-j.j c.loop-k.k c.loop-j.invariant.5 (omega arith) (omega arith) c.side-later.ensures (was c.steps_to.ensures c.if-steps_to.true) in (
+    let is = a_step c.args.delay c.args.t fits c.loop-j.sides c.loop-j.j c.loop-k.k c.loop-j.invariant.noted (omega arith) (omega arith) c.side-later.ensures (was c.steps_to.ensures c.if-steps_to.true) in (
       omega arith,
-      λ i. joined c.args.delay (events_of c.args.t) i _ c.loop-k.k (c.join_if-next.ensures i) (c.loop-k.invariant.1 i) (sym is) (filled_at c.args.delay (events_of c.args.t) _ _ c.loop-j.invariant.3 i c.loop-k.k (omega arith)),
+      λ i. joined c.args.delay (events_of c.args.t) i _ c.loop-k.k (c.join_if-next.ensures i) (c.loop-k.invariant.1 i) (sym is) (filled_at c.args.delay (events_of c.args.t) _ _ c.loop-j.invariant.filled i c.loop-k.k (omega arith)),
     )
 
 pub loop-k-preserved-then-not-may_pass_to : goal.loop-k-preserved-then-not-may_pass_to
 loop-k-preserved-then-not-may_pass_to c =
     let fits : c.args.t.len ≤ length c.args.t.events = omega (arith, c.requires) in
-    let none = no_step c.args.delay c.args.t fits c.loop-j.sides c.loop-j.j c.loop-k.k c.loop-j.invariant.5 (omega arith) (omega arith) c.side-later.ensures
+    let none = no_step c.args.delay c.args.t fits c.loop-j.sides c.loop-j.j c.loop-k.k c.loop-j.invariant.noted (omega arith) (omega arith) c.side-later.ensures
     (was c.steps_to.ensures c.if-steps_to.false) (was_false c.may_pass_to.ensures c.if-not-may_pass_to.true-raw) in (
       omega arith,
       λ i. passed_by c.args.delay (events_of c.args.t) i _ c.loop-k.k (c.loop-k.invariant.1 i) none,
@@ -47,29 +55,28 @@ loop-k-preserved-then-not-may_pass_to c =
 pub loop-k-preserved : goal.loop-k-preserved
 loop-k-preserved c =
     let fits : c.args.t.len ≤ length c.args.t.events = omega (arith, c.requires) in
-    let by_token = token_step_lem c.args.delay c.args.t fits c.loop-j.sides c.loop-j.j c.loop-k.k c.loop-j.invariant.5 (omega arith) (omega arith) c.side-later.ensures
+    let by_token = token_step_lem c.args.delay c.args.t fits c.loop-j.sides c.loop-j.j c.loop-k.k c.loop-j.invariant.noted (omega arith) (omega arith) c.side-later.ensures
     (was c.steps_to.ensures c.if-steps_to.false) in (
       omega arith,
       λ i. joined c.args.delay (events_of c.args.t) i _ c.loop-k.k (c.join_if-next-in-loop-k.ensures i) (c.loop-k.invariant.1 i)
           (c.passes_to-passes.ensures ∙ sym by_token)
-          (filled_at c.args.delay (events_of c.args.t) _ _ c.loop-j.invariant.3 i c.loop-k.k (omega arith)),
+          (filled_at c.args.delay (events_of c.args.t) _ _ c.loop-j.invariant.filled i c.loop-k.k (omega arith)),
     )
 
 pub loop-j-preserved : goal.loop-j-preserved
 loop-j-preserved c =
-    let e : c.loop-k.k ≡ c.loop-j.j = omega arith in (
-      omega arith,
-      c.loop-j.invariant.1,
-      simp length-set c.loop-j.invariant.2,
-      filled_more _ _ c.loop-j.rows c.loop-j.j c.loop-k.set (omega arith) c.loop-j.invariant.3
-          (λ i. c.loop-k.invariant.1 i ∙ ap (any_below (through _ _ i _)) e ∙ sym (row_union _ _ i _)),
-      simp length-set c.loop-j.invariant.4,
-      noted_more (side_at c.args.t) no_side c.loop-j.sides c.loop-j.j (omega arith) c.side-later.ensures c.loop-j.invariant.5,
-      barred_more c.args.t c.loop-j.j c.loop-j.invariant.6 c.side-later.ensures,
-      earliest_more c.args.t c.loop-j.j c.loop-j.invariant.7 c.side-later.ensures c.earlier_of-earliest.ensures.0 c.earlier_of-earliest.ensures.1,
-    )
+    let e : c.loop-k.k ≡ c.loop-j.j = omega arith in record {
+      events = c.loop-j.invariant.events;
+      rows = simp length-set c.loop-j.invariant.rows;
+      filled = filled_more _ _ c.loop-j.rows c.loop-j.j c.loop-k.set (omega arith) c.loop-j.invariant.filled
+          (λ i. c.loop-k.invariant.1 i ∙ ap (any_below (through _ _ i _)) e ∙ sym (row_union _ _ i _));
+      sides = simp length-set c.loop-j.invariant.sides;
+      noted = noted_more (side_at c.args.t) no_side c.loop-j.sides c.loop-j.j (omega arith) c.side-later.ensures c.loop-j.invariant.noted;
+      barred = barred_more c.args.t c.loop-j.j c.loop-j.invariant.barred c.side-later.ensures;
+      earliest = earliest_more c.args.t c.loop-j.j c.loop-j.invariant.earliest c.side-later.ensures c.earlier_of-earliest.ensures.0 c.earlier_of-earliest.ensures.1;
+    }
 
 pub returns : goal.returns
 returns c =
     let fits : c.args.t.len ≤ length c.args.t.events = omega (arith, c.requires) in
-    filled_all c.args.delay (events_of c.args.t) c.loop-j.rows c.loop-j.j (omega (arith, length_events c.args.t fits)) c.loop-j.invariant.3
+    filled_all c.args.delay (events_of c.args.t) c.loop-j.rows c.loop-j.j (omega (arith, length_events c.args.t fits)) c.loop-j.invariant.filled

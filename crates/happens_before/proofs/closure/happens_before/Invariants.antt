@@ -1,6 +1,6 @@
 -- The outer invariant: the rows of the events below j are filled and their sides noted, `barred` tells whether one of them is a
 -- barrier, and `earliest` is no later than the `to` of any that a switch handles. The inner: the set holds what happens before j by a last step from below k; no step leads to j from before the search.
-use Prim.Native.Nat.{ℕ, ◌≤◌, ◌-◌}
+use Prim.Native.Nat.{ℕ, ◌≤◌}
 use mathlib.Core.Path.{◌≡◌}
 use lib.ListN.{length}
 use Rattle.bit_sets.specs.Inner.{member}
@@ -15,13 +15,13 @@ use Rattle.happens_before.proofs.closure.happens_before.Given as goal
 abbrev pub invariant-loop-k : goal.invariant-loop-k
 invariant-loop-k l = (l.k ≤ l.j) × ((i : ℕ) → member l.set i ≡ any_below (through l.delay (events_of l.t) i l.j) l.k)
 
-abbrev pub decreases-loop-k : goal.decreases-loop-k
-decreases-loop-k l = l.j - l.k
-
 abbrev pub invariant-loop-j : goal.invariant-loop-j
-invariant-loop-j l =
-    (l.j ≤ l.n) × (length l.t.events ≡ 256) × (length l.rows ≡ 256) × Filled l.delay (events_of l.t) l.j l.rows × (length l.sides ≡ 256) × Noted l.t l.j l.sides × Barred l.t l.j l.barred
-    × Earliest l.t l.j l.earliest
-
-abbrev pub decreases-loop-j : goal.decreases-loop-j
-decreases-loop-j l = l.n - l.j
+invariant-loop-j l = record {
+  events : length l.t.events ≡ 256;
+  rows : length l.rows ≡ 256;
+  filled : Filled l.delay (events_of l.t) l.j l.rows;
+  sides : length l.sides ≡ 256;
+  noted : Noted l.t l.j l.sides;
+  barred : Barred l.t l.j l.barred;
+  earliest : Earliest l.t l.j l.earliest;
+}

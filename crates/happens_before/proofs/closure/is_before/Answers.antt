@@ -3,4 +3,4 @@ use Rattle.happens_before.proofs.closure.is_before.Goals as goal
 
 pub returns : goal.returns
 unfolding bit
-returns c = c.contains.ensures
+returns c = cc

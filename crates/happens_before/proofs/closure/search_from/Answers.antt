@@ -4,8 +4,8 @@ use Rattle.happens_before.proofs.closure.search_from.Goals as goal
 
 pub returns-then-later-barred : goal.returns-then-later-barred
 unfolding search_from
-returns-then-later-barred c = rw c.if-later-barred.true refl
+returns-then-later-barred c = let t = rw (c.from.ensures, c.from-2.ensures, c.from-3.ensures) at c.if-later-barred.true in rw t refl
 
-pub returns : goal.returns
+pub returns-else-later-barred : goal.returns-else-later-barred
 unfolding search_from
-returns c = rw c.if-later-barred.false refl
+returns-else-later-barred c = let t = rw (c.from.ensures, c.from-2.ensures, c.from-3.ensures) at c.if-later-barred.false in rw t refl

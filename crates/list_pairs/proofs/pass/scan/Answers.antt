@@ -50,8 +50,8 @@ put_listed-requires c =
       length-sets c.args.list.now 0 (pair_bytes (rows_below c.args.delay listed es c.args.t.len c.loop-i.i)),
     )
 
-pub counted-next-requires : goal.counted-next-requires
-counted-next-requires c = small_of c.loop-j.sum (λ k. omega (arith, most c.args.delay k (events_of c.args.t) c.args.t.len c.loop-i.i c.loop-j.j _ _ c.requires.len_bound.0 (c.loop-j.invariant.2 k) (c.loop-i.invariant.2 k), c.requires.len_bound))
+pub counted-sum-requires : goal.counted-sum-requires
+counted-sum-requires c = small_of c.loop-j.sum (λ k. omega (arith, most c.args.delay k (events_of c.args.t) c.args.t.len c.loop-i.i c.loop-j.j _ _ c.requires.len_bound.0 (c.loop-j.invariant.2 k) (c.loop-i.invariant.2 k), c.requires.len_bound))
 
 pub loop-j-preserved : goal.loop-j-preserved
 loop-j-preserved c =
@@ -65,7 +65,7 @@ loop-j-preserved c =
     ∙ verdict_by_lem (event_at es c.loop-i.i).operation (event_at es c.loop-j.j).operation (c.all_uses-uses.ensures.2 c.loop-i.i (omega (arith, c.requires.len_bound))) (c.all_uses-uses.ensures.2 c.loop-j.j (omega arith)) c.is_before-ordered.result in (
       omega arith,
       omega arith,
-      λ k. count_turn _ es c.loop-i.i c.loop-j.j c.loop-j.invariant.0 before-is verdict k _ _ _ (c.counted-next.ensures k) (c.loop-j.invariant.2 k),
+      λ k. count_turn _ es c.loop-i.i c.loop-j.j c.loop-j.invariant.0 before-is verdict k _ _ _ (c.counted-sum.ensures k) (c.loop-j.invariant.2 k),
       bytes_turn _ es c.loop-i.i c.loop-j.j c.loop-j.invariant.0 before-is verdict _ _ _ c.loop-i.sum.listed c.loop-j.sum.listed (c.loop-j.invariant.2 listed) c.loop-j.invariant.3 c.put_listed.ensures,
     )
 

@@ -1,5 +1,5 @@
 -- The outer invariant: the counts and the list have the pairs whose lower event is below i. The inner: and those of i and the events below j.
-use Prim.Native.Nat.{◌+◌, ◌-◌, ◌*◌, ◌<◌, ◌≤◌}
+use Prim.Native.Nat.{◌+◌, ◌*◌, ◌<◌, ◌≤◌}
 use mathlib.Core.Path.{◌≡◌}
 use lib.ListN.{length}
 use lib.Seq.{sets}
@@ -17,9 +17,6 @@ invariant-loop-j l =
     × ((k : Kind) → count_of k l.sum ≡ count_of k l.initial.sum + length (pairs_of l.delay k (events_of l.t) l.i l.j))
     × (l.list ≡ sets l.initial.list (2 * l.initial.sum.listed) (pair_bytes (pairs_of l.delay listed (events_of l.t) l.i l.j)))
 
-abbrev pub decreases-loop-j : goal.decreases-loop-j
-decreases-loop-j l = l.t.len - l.j
-
 abbrev pub invariant-loop-i : goal.invariant-loop-i
 invariant-loop-i l =
     (l.i ≤ l.t.len)
@@ -27,6 +24,3 @@ invariant-loop-i l =
     × ((k : Kind) → count_of k l.sum ≡ length (rows_below l.delay k (events_of l.t) l.t.len l.i))
     × (l.list ≡ sets l.initial.list 0 (pair_bytes (rows_below l.delay listed (events_of l.t) l.t.len l.i)))
     × (length l.uses ≡ 256)
-
-abbrev pub decreases-loop-i : goal.decreases-loop-i
-decreases-loop-i l = l.t.len - l.i

@@ -1,8 +1,14 @@
-use Rattle.list_report.proofs.Printed.{accepted_put, refused_put}
+use Rattle.std.specs.Prelude.{Ok, Err}
+use Rattle.trace_events.specs.Events.{events_of}
+use Rattle.list_report.proofs.Printed.{report_put}
 use Rattle.list_report.proofs.printing.report.Goals as goal
 
-pub returns-in-Refused : goal.returns-in-Refused
-returns-in-Refused c = record { put = (refused_put _ _ c.read_trace-read.result c.read_trace-read.ensures.answer _ c.in-Refused.is c.refused.ensures).0; upper_bound = (refused_put _ _ c.read_trace-read.result c.read_trace-read.ensures.answer _ c.in-Refused.is c.refused.ensures).1 }
+pub returns-in-Ok : goal.returns-in-Ok
+returns-in-Ok c =
+    let p = report_put _ _ (Ok (events_of c.in-Ok.events)) c.in-Ok.ensures.answer c.put_listing.ensures in
+    record { put = p.0; upper_bound = p.1 }
 
-pub returns-in-Accepted : goal.returns-in-Accepted
-returns-in-Accepted c = record { put = (accepted_put _ _ c.read_trace-read.result c.read_trace-read.ensures.answer c.in-Accepted.is c.put_listing.ensures).0; upper_bound = (accepted_put _ _ c.read_trace-read.result c.read_trace-read.ensures.answer c.in-Accepted.is c.put_listing.ensures).1 }
+pub returns-in-Err : goal.returns-in-Err
+returns-in-Err c =
+    let p = report_put _ _ (Err c.in-Err.refusal) c.in-Err.ensures.answer c.refused.ensures in
+    record { put = p.0; upper_bound = p.1 }

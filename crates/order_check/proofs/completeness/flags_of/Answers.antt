@@ -6,17 +6,14 @@ use Rattle.basics.specs.Searches.{has}
 use Rattle.order_check.proofs.Flags.{flagged}
 use Rattle.order_check.proofs.completeness.flags_of.Goals as goal
 
-pub loop-p-init : goal.loop-p-init
-loop-p-init c = (omega arith, refl, λ i l. rw (get_or-replicate 256 i false false l) refl)
+pub loop-event-init : goal.loop-event-init
+loop-event-init c = (refl, λ i l. rw (get_or-replicate 256 i false false l) refl)
 
-pub overflow_cast-e : goal.overflow_cast-e
-overflow_cast-e c = omega (arith, c.type_inv.order c.loop-p.p)
-
-pub bounds-flags-e : goal.bounds-flags-e
-bounds-flags-e c = omega (arith, c.type_inv.order c.loop-p.p)
-
-pub loop-p-preserved : goal.loop-p-preserved
-loop-p-preserved c = (omega arith, simp length-set c.loop-p.invariant.1, λ i h. flagged c.loop-p.flags _ c.loop-p.p i c.loop-p-test.true (omega arith) ∙ c.loop-p.invariant.2 i h)
+pub loop-event-preserved : goal.loop-event-preserved
+loop-event-preserved c = (
+  rw (c.from.ensures, length-set) c.loop-event.invariant.0,
+  λ i h. rw c.from.ensures (flagged c.loop-event.flags _ c.loop-event.event-index i c.loop-event-test.true (omega arith) ∙ c.loop-event.invariant.1 i h),
+)
 
 pub returns : goal.returns
-returns c i l = sym (or-false _) ∙ sym (ap (λ o. get_or c.loop-p.flags i false || has i o) (drop_of_length-le _ c.loop-p-test.false)) ∙ c.loop-p.invariant.2 i l
+returns c i l = sym (or-false _) ∙ sym (ap (λ o. get_or c.loop-event.flags i false || has i o) (drop_of_length-le _ {i = c.loop-event.event-index} (omega arith))) ∙ c.loop-event.invariant.1 i l

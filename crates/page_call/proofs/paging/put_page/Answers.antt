@@ -18,4 +18,4 @@ pub put_pairs-at-requires : goal.put_pairs-at-requires
 put_pairs-at-requires c = record { len_bound = (c.requires.few, list_fits _ _ c.list_of-counts.result _ c.list_of-counts.ensures 131072 (omega (arith, c.list_of-counts.ensures.most))); by_index = list_inside _ c.args.t _ (list_is _ _ c.list_of-counts.result _ c.list_of-counts.ensures); by_index_2 = c.requires.range }
 
 pub returns : goal.returns
-returns c = page_done _ _ c.list_of-counts.result _ c.list_of-counts.ensures (events_most c.args.t c.requires.few) c.requires.range _ (omega (arith, c.if-out-needed.false)) c.put_pairs-at.ensures.put c.put_counts-end.ensures
+returns c = page_done _ _ c.list_of-counts.result _ c.list_of-counts.ensures (events_most c.args.t c.requires.few) c.requires.range _ (omega (arith, c.if-out-needed.false)) c.put_pairs-at.ensures.put c.put_counts.ensures

@@ -1,24 +1,25 @@
 use native.Mathlib.Omega.{arith}
 use mathlib.Core.Path.{◌≡◌, refl, ap, ◌∙◌}
-use lib.ListN.{length}
+use lib.ListN.{length, length-take}
 use borrow.Author.Rules.{rules}
 use Rattle.basics.proofs.Arrays.{length_mapped}
 use Rattle.replay_answers.specs.Answers.{answers_text}
 use Rattle.replay_answers.specs.Inner.{kept_at}
-use Rattle.replay_answers.proofs.AnswerLaws.{text_length, counted}
+use Rattle.replay_answers.proofs.AnswerLaws.{text_length, kept_front, counted}
 use Rattle.replay_answers.proofs.answers.answers_length.Goals as goal
 
 pub loop-i-init : goal.loop-i-init
 unfolding answers_text
-loop-i-init c = (omega arith, search (rules, length_mapped), refl, refl)
+loop-i-init c = refl
 
 pub put_answer-at-requires : goal.put_answer-at-requires
-put_answer-at-requires c = omega (arith, text_length (kept_at c.args.answers) c.loop-i.i)
+put_answer-at-requires c = omega (arith, text_length (kept_at c.args.answers) c.loop-i.i, length-take c.args.n c.args.answers)
 
 pub loop-i-preserved : goal.loop-i-preserved
-loop-i-preserved c = (omega arith, c.loop-i.invariant.1, c.put_answer-at.auto.out ∙ c.loop-i.invariant.2, counted (kept_at c.args.answers) c.loop-i.i c.loop-i.at c.put_answer-at.result refl c.loop-i.invariant.3 c.put_answer-at.ensures.after)
+loop-i-preserved c = counted (kept_at c.args.answers) c.loop-i.i c.loop-i.at c.put_answer-at.result (kept_front _ _ _ _ c.loop-i-test.true) c.loop-i.invariant c.put_answer-at.ensures.after
 
 pub returns : goal.returns
 returns c =
-    let e : c.loop-i.i ≡ c.args.n = omega arith in
-    c.loop-i.invariant.3 ∙ ap (λ k. length (answers_text (kept_at c.args.answers) k)) e
+    let size : length c.args.answers ≡ 256 = search (rules, length_mapped) in
+    let e : c.loop-i.i ≡ c.args.n = omega (arith, length-take c.args.n c.args.answers) in
+    c.loop-i.invariant ∙ ap (λ k. length (answers_text (kept_at c.args.answers) k)) e

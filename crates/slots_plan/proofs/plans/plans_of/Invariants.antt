@@ -1,28 +1,12 @@
--- The outer invariant: the events below e have their plans. The inner: the search for the slot of the row that the event puts in.
-use Prim.Native.Nat.{ℕ, ◌-◌, ◌≤◌, ◌<◌}
+-- The events below e have their plans.
+use Prim.Native.Nat.{ℕ, ◌<◌}
 use mathlib.Core.Path.{◌≡◌}
-use mathlib.Core.List.{[]}
 use lib.ListN.{length, get_or}
 use Rattle.rows.specs.Rows.{rows_of}
-use Rattle.rows_search.proofs.Searches.{Searched}
 use Rattle.trace_events.specs.Events.{events_of}
+use Rattle.slots.specs.Inner.{idle}
 use Rattle.slots_plan.specs.Inner.{work_at, PlanFor}
 use Rattle.slots_plan.proofs.plans.plans_of.Given as goal
 
-abbrev pub invariant-loop-search : goal.invariant-loop-search
-invariant-loop-search l = Searched l.row l.slots.rows l.len l.search
-
-abbrev pub decreases-loop-search : goal.decreases-loop-search
-decreases-loop-search l = l.search.at - l.search.low
-
 abbrev pub invariant-loop-e : goal.invariant-loop-e
-invariant-loop-e l =
-    (l.e ≤ 256)
-    × (l.len ≤ 512)
-    × (length l.t.events ≡ 256)
-    × (length l.slots.rows ≡ 512)
-    × (length l.plans ≡ 256)
-    × ((k : ℕ) → k < l.e → PlanFor (rows_of l.slots) (work_at (events_of l.t) k) (get_or l.plans k []))
-
-abbrev pub decreases-loop-e : goal.decreases-loop-e
-decreases-loop-e l = 256 - l.e
+invariant-loop-e l = (length l.plans ≡ 256) × ((k : ℕ) → k < l.e → PlanFor (rows_of l.slots) (work_at (events_of l.t) k) (get_or l.plans k idle))

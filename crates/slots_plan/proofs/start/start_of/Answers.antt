@@ -1,77 +1,19 @@
 use Prim.Native.Nat.{◌≤◌}
 use native.Mathlib.Omega.{arith}
-use mathlib.Core.Path.{◌∙◌, ap, sym}
-use lib.ListN.{length}
-use lib.Seq.{get_or-take, length-take-le}
-use borrow.Author.Rules.{rules}
-use Rattle.basics.proofs.Arrays.{length_mapped}
-use Rattle.flow.specs.Entries.{action_code}
+use mathlib.Core.Path.{refl}
+use lib.ListN.{length, length-take}
 use Rattle.rows.specs.Rows.{rows_of}
-use Rattle.rows_search.proofs.Searches.{search_start, search_less, search_turn}
-use Rattle.slots_plan.proofs.StartLaws.{start_place, place_inside, starting_none, starting_more, starting_end}
+use Rattle.slots_plan.proofs.StartLaws.{starting_none, starting_more, starting_end}
 use Rattle.slots_plan.proofs.start.start_of.Goals as goal
 
-pub loop-j-init : goal.loop-j-init
-loop-j-init c = (omega arith, search (rules, length_mapped), search (rules, length_mapped), starting_none _ _ _ _ c.no_codes-codes.ensures.0 c.no_codes-codes.ensures.1 c.none-set.ensures)
+pub loop-row-init : goal.loop-row-init
+loop-row-init c = starting_none _ _ _ _ refl c.none-set.ensures
 
-pub offset_bounds-start-j : goal.offset_bounds-start-j
-offset_bounds-start-j c = omega (arith, c.loop-j-test.true, c.requires.1)
-
-pub bounds-start-j : goal.bounds-start-j
-bounds-start-j c = omega (arith, c.loop-j-test.true, c.requires.1, c.loop-j.invariant.2)
-
-pub loop-search-init : goal.loop-search-init
-loop-search-init c = search_start _ _ _ (omega (arith, c.requires.0, c.loop-j.invariant.1))
-
-pub offset_bounds-slots-middle : goal.offset_bounds-slots-middle
-offset_bounds-slots-middle c = omega (arith, c.loop-search.invariant.within, c.middle-middle.ensures.1, c.requires.0)
-
-pub bounds-slots-middle : goal.bounds-slots-middle
-bounds-slots-middle c = omega (arith, c.loop-search.invariant.within, c.middle-middle.ensures.1, c.requires.0, c.loop-j.invariant.1)
-
-pub narrowed-next-requires : goal.narrowed-next-requires
-narrowed-next-requires c = c.middle-middle.ensures.1
-
-pub loop-search-smaller : goal.loop-search-smaller
-loop-search-smaller c = search_less _ _ c.middle-middle.ensures.0 c.middle-middle.ensures.1 _ _ c.narrowed-next.ensures
-
-pub loop-search-preserved : goal.loop-search-preserved
-loop-search-preserved c = search_turn _ _ _ _ c.loop-search.invariant _ c.middle-middle.ensures.0 c.middle-middle.ensures.1 _ c.narrowed-next.ensures c.requires.2
-
-pub with-more-requires : goal.with-more-requires
-with-more-requires c =
+pub loop-row-preserved : goal.loop-row-preserved
+loop-row-preserved c =
     let slots = c.args.slots in
-    let start = c.args.start in
-    let inside = place_inside slots.rows slots.len c.loop-search.search start.rows start.len c.loop-j.j _ c.loop-search.invariant c.loop-search-test.false c.loop-j-test.true (omega (arith, c.requires.1, c.loop-j.invariant.2)) c.requires.4 in
-    omega (arith, inside, length-take-le slots.len slots.rows (omega (arith, c.requires.0, c.loop-j.invariant.1)), c.requires.0)
-
-pub offset_bounds-codes-at : goal.offset_bounds-codes-at
-offset_bounds-codes-at c =
-    let slots = c.args.slots in
-    let start = c.args.start in
-    let inside = place_inside slots.rows slots.len c.loop-search.search start.rows start.len c.loop-j.j _ c.loop-search.invariant c.loop-search-test.false c.loop-j-test.true (omega (arith, c.requires.1, c.loop-j.invariant.2)) c.requires.4 in
-    omega (arith, inside, length-take-le slots.len slots.rows (omega (arith, c.requires.0, c.loop-j.invariant.1)), c.requires.0)
-
-pub bounds-codes-at : goal.bounds-codes-at
-bounds-codes-at c =
-    let slots = c.args.slots in
-    let start = c.args.start in
-    let inside = place_inside slots.rows slots.len c.loop-search.search start.rows start.len c.loop-j.j _ c.loop-search.invariant c.loop-search-test.false c.loop-j-test.true (omega (arith, c.requires.1, c.loop-j.invariant.2)) c.requires.4 in
-    omega (arith, inside, length-take-le slots.len slots.rows (omega (arith, c.requires.0, c.loop-j.invariant.1)), c.requires.0, c.loop-j.invariant.3.size)
-
-pub loop-j-preserved : goal.loop-j-preserved
-loop-j-preserved c =
-    let slots = c.args.slots in
-    let start = c.args.start in
-    let few : length (rows_of slots) ≤ 512 = omega (arith, length-take-le slots.len slots.rows (omega (arith, c.requires.0, c.loop-j.invariant.1)), c.requires.0) in
-    let fits : start.len ≤ length start.rows = omega (arith, c.requires.1, c.loop-j.invariant.2) in
-    let mark = start_place _ _ _ start.rows start.len c.loop-j.j _ c.loop-search.invariant c.loop-search-test.false c.loop-j-test.true fits c.requires.4 in
-    let code = c.code_of.ensures.0 ∙ ap (λ x. action_code x.entry.action) (sym (get_or-take start.len start.rows c.loop-j.j _ c.loop-j-test.true)) in (
-      omega (arith, c.loop-j-test.true),
-      c.loop-j.invariant.1,
-      c.loop-j.invariant.2,
-      starting_more _ _ _ _ _ c.loop-j.invariant.3 _ c.requires.2 c.requires.3 (omega (arith, c.loop-j-test.true, length-take-le start.len start.rows fits)) _ few mark c.with-more.ensures code c.code_of.ensures.1,
-    )
+    let few : length (rows_of slots) ≤ 512 = omega (arith, length-take slots.len slots.rows, c.requires.0) in
+    starting_more _ _ _ _ _ c.loop-row.invariant _ c.requires.2 c.requires.3 c.loop-row-test.true _ few c.slot_of-at.ensures.slot c.with-more.ensures
 
 pub returns : goal.returns
-returns c = starting_end _ _ _ _ _ c.loop-j.invariant.3 (omega (arith, c.loop-j-test.false, length-take-le c.args.start.len c.args.start.rows (omega (arith, c.requires.1, c.loop-j.invariant.2))))
+returns c = starting_end _ _ _ _ _ c.loop-row.invariant c.loop-row-test.false

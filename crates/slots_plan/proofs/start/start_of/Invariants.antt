@@ -1,21 +1,7 @@
--- The outer invariant: the first j starting rows are held. The inner: the search for the slot of the next.
-use Prim.Native.Nat.{◌-◌, ◌≤◌}
-use mathlib.Core.Path.{◌≡◌}
-use lib.ListN.{length}
+-- The starting rows so far are held.
 use Rattle.rows.specs.Rows.{rows_of}
-use Rattle.rows_search.proofs.Searches.{Searched}
 use Rattle.slots_plan.proofs.StartLaws.{Starting}
 use Rattle.slots_plan.proofs.start.start_of.Given as goal
 
-abbrev pub invariant-loop-search : goal.invariant-loop-search
-invariant-loop-search l = Searched l.row l.slots.rows l.len l.search
-
-abbrev pub decreases-loop-search : goal.decreases-loop-search
-decreases-loop-search l = l.search.at - l.search.low
-
-abbrev pub invariant-loop-j : goal.invariant-loop-j
-invariant-loop-j l =
-    (l.j ≤ l.n)
-    × (length l.slots.rows ≡ 512)
-    × (length l.start.rows ≡ 512)
-    × Starting (rows_of l.slots) (rows_of l.start) l.j l.set l.codes
+abbrev pub invariant-loop-row : goal.invariant-loop-row
+invariant-loop-row l = Starting (rows_of l.slots) l.row-items l.row-index l.set l.actions

@@ -1,27 +1,16 @@
-use native.Mathlib.Omega.{arith}
-use mathlib.Core.Path.{ap, ◌∙◌}
-use Rattle.flow_table.specs.FlowTable.{entry}
-use Rattle.rows_step.specs.Inner.{seen}
-use Rattle.slots_run.proofs.Looking.{look_start, look_turn, look_end}
+use mathlib.Core.Path.{◌∙◌, subst}
+use Rattle.std.specs.Prelude.{Some, None}
+use Rattle.bit_sets.specs.Inner.{NextFrom}
+use Rattle.slots_run.proofs.Looking.{look_turn, look_end}
 use Rattle.slots_run.proofs.lookup.look_up.Goals as goal
-
-pub loop-i-init : goal.loop-i-init
-loop-i-init c = look_start _ _ _ _ c.next-i.ensures
-
-pub action_of-action-requires : goal.action_of-action-requires
-action_of-action-requires c = c.requires c.loop-i.i
-
-pub seen-more-requires : goal.seen-more-requires
-seen-more-requires c = omega (arith, c.loop-i.invariant.count, c.loop-i-test.true)
-
-pub loop-i-smaller : goal.loop-i-smaller
-loop-i-smaller c = omega (arith, c.loop-i-test.true, c.next-i-in-loop-i.ensures.after)
 
 pub loop-i-preserved : goal.loop-i-preserved
 loop-i-preserved c =
-    look_turn _ _ _ _ _ c.loop-i.invariant c.loop-i-test.true _
-    (λ k e. c.seen-more.ensures.0 k e ∙ ap (λ a. seen c.loop-i.answer (entry k a)) c.action_of-action.ensures)
-    c.seen-more.ensures.1 _ c.next-i-in-loop-i.ensures
+    let step = c.in-Some.ensures.steps in
+    let found = subst (λ z. NextFrom z c.loop-i.i-iterator.from (Some c.in-Some.i)) c.loop-i.invariant.0 step.found in
+    (step.set ∙ c.loop-i.invariant.0, rw step.past (look_turn _ _ _ _ _ c.loop-i.invariant.1 _ c.in-Some.i found c.seen-more.ensures.0 c.seen-more.ensures.1))
 
 pub returns : goal.returns
-returns c = look_end _ _ _ _ _ c.loop-i.invariant c.loop-i-test.false
+returns c =
+    let found = subst (λ z. NextFrom z c.loop-i.i-iterator.from None) c.loop-i.invariant.0 c.in-None.ensures.steps.found in
+    look_end _ _ _ _ _ c.loop-i.invariant.1 found

@@ -1,22 +1,10 @@
 -- In each arm the answer is that of the definition; a count of the best priority grows by one at most.
-use mathlib.Core.Path.{refl}
+use mathlib.Core.Path.{refl, sym, ◌∙◌}
 use native.Mathlib.Omega.{arith}
 use borrow.Author.Tests.{lt-ltb, le-ltb, eq-eqb, ne_eqb}
+use Rattle.std.proofs.lemmas.Cmp.{ranked}
 use Rattle.rows_step.specs.Inner.{seen, seen_at}
 use Rattle.slots_run.proofs.lookup.seen.Goals as goal
-
-pub returns-then-best-priority : goal.returns-then-best-priority
-unfolding seen seen_at
-returns-then-best-priority c = rw c.in-Hit.is (λ k e. rw (e, lt-ltb _ _ c.if-best-priority.true) refl, omega arith)
-
-pub overflow_add-result : goal.overflow_add-result
-overflow_add-result c =
-    let h = rw c.in-Hit.is at c.requires in
-    omega arith
-
-pub returns-then-best-priority-2 : goal.returns-then-best-priority-2
-unfolding seen seen_at
-returns-then-best-priority-2 c = rw c.in-Hit.is (λ k e. rw (e, le-ltb _ _ c.if-best-priority.false, eq-eqb _ _ c.if-best-priority-2.true) refl, omega arith)
 
 pub returns-in-Silent : goal.returns-in-Silent
 unfolding seen seen_at
@@ -30,6 +18,20 @@ pub returns-in-Miss : goal.returns-in-Miss
 unfolding seen seen_at
 returns-in-Miss c = rw c.in-Miss.is (λ k e. rw e refl, omega arith)
 
-pub returns-else-best-priority-2 : goal.returns-else-best-priority-2
+pub returns-in-Less : goal.returns-in-Less
 unfolding seen seen_at
-returns-else-best-priority-2 c = rw c.in-Hit.is (λ k e. rw (e, le-ltb _ _ c.if-best-priority.false, ne_eqb _ _ c.if-best-priority-2.false) refl, omega arith)
+returns-in-Less c =
+    let less = ranked c.in-Hit.best c.args.priority _ (sym c.in-Less.is ∙ c.cmp.ensures) in
+    rw c.in-Hit.is (λ k e. rw (e, lt-ltb _ _ less) refl, omega arith)
+
+pub returns-in-Equal : goal.returns-in-Equal
+unfolding seen seen_at
+returns-in-Equal c =
+    let same = ranked c.in-Hit.best c.args.priority _ (sym c.in-Equal.is ∙ c.cmp.ensures) in
+    rw c.in-Hit.is (λ k e. rw (e, le-ltb c.in-Hit.best c.args.priority (omega arith), eq-eqb _ _ same) refl, omega arith)
+
+pub returns-in-Greater : goal.returns-in-Greater
+unfolding seen seen_at
+returns-in-Greater c =
+    let more = ranked c.in-Hit.best c.args.priority _ (sym c.in-Greater.is ∙ c.cmp.ensures) in
+    rw c.in-Hit.is (λ k e. rw (e, le-ltb c.in-Hit.best c.args.priority (omega arith), ne_eqb c.in-Hit.best c.args.priority (λ q. omega arith)) refl, omega arith)

@@ -5,10 +5,16 @@ use Rattle.tables_normal.proofs.Normalising.{put_short, put_fits, put_uncounted}
 use Rattle.tables_normal.proofs.normal.put_normal.Goals as goal
 
 pub returns-then-rows-out : goal.returns-then-rows-out
-returns-then-rows-out c = record { value = (put_uncounted (rows_of c.args.rows) c.args.out.now c.requires.1 (omega (arith, c.if-rows-out.true, length-take c.args.rows.len c.args.rows.rows)) _ _ c.write_normal-n.ensures).0; out_after = (put_uncounted (rows_of c.args.rows) c.args.out.now c.requires.1 (omega (arith, c.if-rows-out.true, length-take c.args.rows.len c.args.rows.rows)) _ _ c.write_normal-n.ensures).1 }
+returns-then-rows-out c =
+    let l = put_uncounted (rows_of c.args.rows) c.args.out.now c.requires.range (omega (arith, c.if-rows-out.true, length-take c.args.rows.len c.args.rows.rows)) _ _ c.write_normal.ensures in
+    record { value = l.0; out_after = l.1 }
 
 pub returns-then-out-needed : goal.returns-then-out-needed
-returns-then-out-needed c = record { value = (put_short (rows_of c.args.rows) c.args.out.now c.normal_length-needed.ensures c.if-out-needed.true).0; out_after = (put_short (rows_of c.args.rows) c.args.out.now c.normal_length-needed.ensures c.if-out-needed.true).1 }
+returns-then-out-needed c =
+    let l = put_short (rows_of c.args.rows) c.args.out.now c.normal_length-needed.ensures c.if-out-needed.true in
+    record { value = l.0; out_after = l.1 }
 
 pub returns : goal.returns
-returns c = record { value = (put_fits (rows_of c.args.rows) c.args.out.now c.normal_length-needed.ensures c.if-out-needed.false _ _ c.write_normal-n-2.ensures).0; out_after = (put_fits (rows_of c.args.rows) c.args.out.now c.normal_length-needed.ensures c.if-out-needed.false _ _ c.write_normal-n-2.ensures).1 }
+returns c =
+    let l = put_fits (rows_of c.args.rows) c.args.out.now c.normal_length-needed.ensures c.if-out-needed.false _ _ c.write_normal-2.ensures in
+    record { value = l.0; out_after = l.1 }

@@ -1,46 +1,34 @@
-use Prim.Native.Nat.{ℕ, ◌<◌, ◌+◌}
-use native.Mathlib.Omega.{arith}
-use borrow.Author.Rules.{rules}
-use mathlib.Core.List.{[], ◌∷◌, ◌++◌}
-use mathlib.Core.Path.{◌≡◌, refl, sym, ◌∙◌, ap}
-use lib.ListN.{length, get_or, take, set, length-set}
-use Rattle.text_lines.specs.Lines.{lines}
-use Rattle.text_reader.proofs.Reading.{first_start, ends_next, ends_rise, ends_line}
-use Rattle.text_reader.proofs.Each.{rest_start, rest_end, rest_refused, rest_read}
-use Rattle.text_numbers.proofs.Readers.{seen}
-use Rattle.refusals.specs.Checks.{value_or}
+use Rattle.std.proofs.Common.{refl, sym, ◌∙◌, arith, rules, length-set}
+use Rattle.std.proofs.lemmas.List.{length_push}
 use Rattle.basics.proofs.Arrays.{length_mapped, pushed}
-use Rattle.tables_text.specs.Inner.{as_row}
+use Rattle.text_lines.specs.Lines.{lines}
+use Rattle.text_reader.proofs.Each.{rest_start, rest_end, rest_refused, rest_read}
+use Rattle.text_reader.proofs.Reader.{line_turn, line_end}
+use Rattle.refusals.proofs.Checks.{handed_back}
 use Rattle.tables_text.proofs.read.read_rows.Goals as goal
 
-pub loop-k-init : goal.loop-k-init
-loop-k-init c = (omega arith, c.no_rows-rows.ensures.1, first_start _, rest_start _ _ _ _ c.no_rows-rows.ensures.0 refl, search (rules, length_mapped), search (rules, length_mapped))
+pub loop-line-init : goal.loop-line-init
+loop-line-init c = (c.no_rows-rows.ensures.1, search (rules, length_mapped), rest_start _ _ _ _ c.no_rows-rows.ensures.0 refl)
 
-pub line_between-line-requires : goal.line_between-line-requires
-line_between-line-requires c = ends_rise _ _ c.line_ends-ends.ensures c.loop-k.k (omega (arith, c.line_ends-ends.ensures.count, c.loop-k-test.true)) _ c.loop-k.invariant.2
+pub returns-in_err-rows : goal.returns-in_err-rows
+returns-in_err-rows c =
+    let (here, line) = line_turn _ (lines c.args.text.now) (cc) _ _ c.loop-line.yielded_by _ _ _ c.in-Some.is c.next.ensures.steps in
+    rw (handed_back c.from_residual.ensures.1) (record {
+      answer = rest_refused _ _ _ _ c.loop-line.invariant.2 here _ line _ (rw (← c.loop-line.invariant.0) (sym c.row_line.ensures ∙ c.in_err-rows.was));
+      few = tt;
+    })
 
-pub returns-in-Refused : goal.returns-in-Refused
-returns-in-Refused c =
-    let inside : c.loop-k.k < length (lines c.args.text.now) = omega (arith, c.line_ends-ends.ensures.count, c.loop-k-test.true) in
-    let here : c.line_between-line.result.now ≡ get_or (lines c.args.text.now) c.loop-k.k [] = ends_line _ _ c.line_ends-ends.ensures c.loop-k.k (inside) _ c.loop-k.invariant.2 c.line_between-line.ensures in
-    rw (← rest_refused _ _ _ _ c.loop-k.invariant.3 (inside) _ (here) _ (seen as_row c.row_line-read.ensures c.in-Refused.is)) c.refused.ensures
-
-pub loop-k-preserved : goal.loop-k-preserved
-loop-k-preserved c =
-    let inside : c.loop-k.k < length (lines c.args.text.now) = omega (arith, c.line_ends-ends.ensures.count, c.loop-k-test.true) in
-    let here : c.line_between-line.result.now ≡ get_or (lines c.args.text.now) c.loop-k.k [] = ends_line _ _ c.line_ends-ends.ensures c.loop-k.k (inside) _ c.loop-k.invariant.2 c.line_between-line.ensures in
-    let more : take (c.loop-k.k + 1) (set c.loop-k.rows.rows c.loop-k.k c.in-Read.row) ≡ take c.loop-k.rows.len c.loop-k.rows.rows ++ (c.in-Read.row ∷ []) =
-    pushed c.loop-k.rows.rows c.loop-k.k c.in-Read.row (omega (arith, inside, c.loop-k.invariant.4)) ∙ ap (λ (j : ℕ). take j c.loop-k.rows.rows ++ (c.in-Read.row ∷ [])) (sym c.loop-k.invariant.1) in (
-      omega arith,
-      refl,
-      ends_next _ _ c.line_ends-ends.ensures c.loop-k.k (inside) _ c.loop-k.invariant.2,
-      rw more
-          (rest_read _ _ _ _ c.loop-k.invariant.3 (inside) _ (here) _ (seen as_row c.row_line-read.ensures c.in-Read.is)),
-      simp length-set c.loop-k.invariant.4,
-      c.loop-k.invariant.5,
+pub loop-line-preserved : goal.loop-line-preserved
+loop-line-preserved c =
+    let (here, line) = line_turn _ (lines c.args.text.now) (cc) _ _ c.loop-line.yielded_by _ _ _ c.in-Some.is c.next.ensures.steps in
+    let more = length_push c.loop-line.yielded c.in-Some.line in (
+      omega (arith, more),
+      simp length-set c.loop-line.invariant.1,
+      rw (pushed c.loop-line.rows.rows c.loop-line.rows.len c.in_ok-rows.field-0 (omega (arith, here)), more)
+          (rest_read _ _ _ _ c.loop-line.invariant.2 here _ line _ (rw (← c.loop-line.invariant.0) (sym c.row_line.ensures ∙ c.in_ok-rows.was))),
     )
 
 pub returns : goal.returns
 returns c =
-    let all = rest_end _ _ _ _ c.loop-k.invariant.3 (omega (arith, c.line_ends-ends.ensures.count, c.loop-k-test.false)) in
-    record { answer = all; rows = ap (value_or []) all; few = omega (arith, c.line_ends-ends.ensures.count) }
+    let all = line_end _ (lines c.args.text.now) (cc) _ _ c.loop-line.yielded_by _ _ c.in-None.is c.next.ensures.steps in
+    record { answer = rest_end _ _ _ _ c.loop-line.invariant.2 (omega (arith, all)); few = omega (arith, all, c.requires) }

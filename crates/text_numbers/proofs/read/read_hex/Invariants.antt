@@ -1,11 +1,10 @@
--- The invariant: the digits from n on, onto the value of the i before, read as all eight do from the start.
-use Prim.Native.Nat.{◌≤◌, ◌<◌, ◌-◌, ◌^◌}
-use mathlib.Core.Path.{◌≡◌}
+-- The invariant: the digits from there on, onto the value of those before, read as all eight do from the start.
+use Rattle.std.proofs.Common.{◌≡◌, ◌+◌, ◌-◌, ◌<◌, ◌^◌}
 use Rattle.text_numbers.specs.Number.{read_hex_digits, read_hex}
 use Rattle.text_numbers.proofs.read.read_hex.Given as goal
 
-abbrev pub invariant-loop-i : goal.invariant-loop-i
-invariant-loop-i l = (l.i ≤ 8) × (l.v < 16 ^ l.i) × (read_hex l.s l.at ≡ read_hex_digits (8 - l.i) l.v l.s l.n)
-
-abbrev pub decreases-loop-i : goal.decreases-loop-i
-decreases-loop-i l = 8 - l.i
+abbrev pub invariant-loop-b : goal.invariant-loop-b
+invariant-loop-b l = record {
+  fits : l.value < 16 ^ l.b-index;
+  same : read_hex l.s l.at ≡ read_hex_digits (8 - l.b-index) l.value l.s (l.at + l.b-index);
+}

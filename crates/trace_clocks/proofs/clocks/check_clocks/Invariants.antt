@@ -13,6 +13,3 @@ invariant-loop-i l =
     × (length l.t.events ≡ 256)
     × Kept l.delay (events_of l.t) l.i l.later
     × Passed (backward l.delay (events_of l.t)) (length (events_of l.t)) l.i l.outcome
-
-abbrev pub decreases-loop-i : goal.decreases-loop-i
-decreases-loop-i l = l.i

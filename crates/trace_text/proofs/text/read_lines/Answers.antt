@@ -1,51 +1,39 @@
-use Prim.Native.Nat.{ℕ, ◌<◌, ◌+◌}
-use native.Mathlib.Omega.{arith}
-use borrow.Author.Rules.{rules}
-use mathlib.Core.List.{[], ◌∷◌, ◌++◌}
-use mathlib.Core.Path.{◌≡◌, refl, sym, ◌∙◌, ap}
-use lib.ListN.{length, get_or, take, set, length-set}
+use Rattle.std.proofs.Common.{refl, sym, ◌∙◌, arith, length-set}
+use Rattle.std.proofs.lemmas.List.{length_push}
+use Rattle.basics.proofs.Arrays.{pushed}
 use Rattle.text_lines.specs.Lines.{lines}
-use Rattle.text_reader.proofs.Reading.{first_start, ends_next, ends_rise, ends_line}
 use Rattle.text_reader.proofs.Each.{rest_start, rest_end, rest_refused, rest_read}
-use Rattle.text_numbers.proofs.Readers.{seen}
-use Rattle.refusals.specs.Checks.{value_or}
+use Rattle.text_reader.proofs.Reader.{line_turn, line_end}
+use Rattle.refusals.proofs.Checks.{handed_back}
 use Rattle.trace_events.specs.Events.{events_of}
 use Rattle.trace_events.proofs.TraceLaws.{none_yet, room_yet}
-use Rattle.basics.proofs.Arrays.{length_mapped, pushed}
-use Rattle.trace_line.specs.Inner.{as_event}
 use Rattle.trace_text.proofs.text.read_lines.Goals as goal
 
-pub loop-k-init : goal.loop-k-init
-loop-k-init c =
+pub loop-line-init : goal.loop-line-init
+loop-line-init c =
     let (none, zero) = none_yet _ c.empty-trace.ensures in
-    (omega arith, zero, first_start _, rest_start _ _ _ _ none refl, room_yet _ c.empty-trace.ensures, search (rules, length_mapped))
+    (zero, room_yet _ c.empty-trace.ensures, rest_start _ _ _ _ none refl)
 
-pub line_between-line-requires : goal.line_between-line-requires
-line_between-line-requires c = ends_rise _ _ c.line_ends-ends.ensures c.loop-k.k (omega (arith, c.line_ends-ends.ensures.count, c.loop-k-test.true)) _ c.loop-k.invariant.2
+pub returns-in_err-trace : goal.returns-in_err-trace
+returns-in_err-trace c =
+    let (here, line) = line_turn _ (lines c.args.text.now) (cc) _ _ c.loop-line.yielded_by _ _ _ c.in-Some.is c.next.ensures.steps in
+    rw (handed_back c.from_residual.ensures.1) (record {
+      answer = rest_refused _ _ _ _ c.loop-line.invariant.2 here _ line _ (rw (← c.loop-line.invariant.0) (sym c.event_line.ensures ∙ c.in_err-trace.was));
+      few = tt;
+    })
 
-pub returns-in-Refused : goal.returns-in-Refused
-returns-in-Refused c =
-    let inside : c.loop-k.k < length (lines c.args.text.now) = omega (arith, c.line_ends-ends.ensures.count, c.loop-k-test.true) in
-    let here : c.line_between-line.result.now ≡ get_or (lines c.args.text.now) c.loop-k.k [] = ends_line _ _ c.line_ends-ends.ensures c.loop-k.k (inside) _ c.loop-k.invariant.2 c.line_between-line.ensures in
-    rw (← rest_refused _ _ _ _ c.loop-k.invariant.3 (inside) _ (here) _ (seen as_event c.event_line-read.ensures c.in-Refused.is)) c.refused.ensures
-
-pub loop-k-preserved : goal.loop-k-preserved
+pub loop-line-preserved : goal.loop-line-preserved
 unfolding events_of
-loop-k-preserved c =
-    let inside : c.loop-k.k < length (lines c.args.text.now) = omega (arith, c.line_ends-ends.ensures.count, c.loop-k-test.true) in
-    let here : c.line_between-line.result.now ≡ get_or (lines c.args.text.now) c.loop-k.k [] = ends_line _ _ c.line_ends-ends.ensures c.loop-k.k (inside) _ c.loop-k.invariant.2 c.line_between-line.ensures in
-    let more : take (c.loop-k.k + 1) (set c.loop-k.trace.events c.loop-k.k c.in-Read.e) ≡ take c.loop-k.trace.len c.loop-k.trace.events ++ (c.in-Read.e ∷ []) =
-    pushed c.loop-k.trace.events c.loop-k.k c.in-Read.e (omega (arith, inside, c.loop-k.invariant.4)) ∙ ap (λ (j : ℕ). take j c.loop-k.trace.events ++ (c.in-Read.e ∷ [])) (sym c.loop-k.invariant.1) in (
-      omega arith,
-      refl,
-      ends_next _ _ c.line_ends-ends.ensures c.loop-k.k (inside) _ c.loop-k.invariant.2,
-      rw more
-          (rest_read _ _ _ _ c.loop-k.invariant.3 (inside) _ (here) _ (seen as_event c.event_line-read.ensures c.in-Read.is)),
-      simp length-set c.loop-k.invariant.4,
-      c.loop-k.invariant.5,
+loop-line-preserved c =
+    let (here, line) = line_turn _ (lines c.args.text.now) (cc) _ _ c.loop-line.yielded_by _ _ _ c.in-Some.is c.next.ensures.steps in
+    let more = length_push c.loop-line.yielded c.in-Some.line in (
+      omega (arith, more),
+      simp length-set c.loop-line.invariant.1,
+      rw (pushed c.loop-line.trace.events c.loop-line.trace.len c.in_ok-trace.field-0 (omega (arith, here)), more)
+          (rest_read _ _ _ _ c.loop-line.invariant.2 here _ line _ (rw (← c.loop-line.invariant.0) (sym c.event_line.ensures ∙ c.in_ok-trace.was))),
     )
 
 pub returns : goal.returns
 returns c =
-    let all = rest_end _ _ _ _ c.loop-k.invariant.3 (omega (arith, c.line_ends-ends.ensures.count, c.loop-k-test.false)) in
-    record { answer = all; events = ap (value_or []) all; few = omega (arith, c.line_ends-ends.ensures.count) }
+    let all = line_end _ (lines c.args.text.now) (cc) _ _ c.loop-line.yielded_by _ _ c.in-None.is c.next.ensures.steps in
+    record { answer = rest_end _ _ _ _ c.loop-line.invariant.2 (omega (arith, all)); few = omega (arith, all, c.requires) }

@@ -1,17 +1,21 @@
+use Rattle.std.proofs.Common.{rules, sym, ◌∙◌}
 use Rattle.trace_words.specs.Words.{read_word}
-use Rattle.trace_words.proofs.WordFormat.{word_before}
+use Rattle.trace_words.proofs.WordFormat.{or_here, or_next, or_last}
 use Rattle.trace_words.proofs.read.read_word.Goals as goal
 
 pub returns : goal.returns
 unfolding read_word
 returns c =
-    word_before _ _ _ _
-    (word_before _ _ _ _
-    (word_before _ _ _ _
-    (word_before _ _ _ _
-    (word_before _ _ _ _ c.write_word-r.ensures
-    c.word_or-r.ensures)
-    c.word_or-r-2.ensures)
-    c.word_or-r-3.ensures)
-    c.word_or-r-4.ensures)
-    c.word_or.ensures
+    sym (
+    (or_next _ _ _ _ _ c.or_else-10.ensures (λ p. search rules)
+    (or_next _ _ _ _ _ c.or_else-9.ensures (λ p. search rules)
+    (or_next _ _ _ _ _ c.or_else-8.ensures (λ p. search rules)
+    (or_next _ _ _ _ _ c.or_else-7.ensures (λ p. search rules)
+    (or_next _ _ _ _ _ c.or_else-6.ensures (λ p. search rules)
+    (or_next _ _ _ _ _ c.or_else-5.ensures (λ p. search rules)
+    (or_next _ _ _ _ _ c.or_else-4.ensures (λ p. search rules)
+    (or_next _ _ _ _ _ c.or_else-3.ensures (λ p. search rules)
+    (or_next _ _ _ _ _ c.or_else-2.ensures (λ p. search rules)
+    (or_next _ _ _ _ _ c.or_else.ensures (λ p. search rules)
+    (or_here _ _ _ _ c.word.ensures)))))))))))
+    ∙ or_last _ _ _)

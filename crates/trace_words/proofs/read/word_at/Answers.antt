@@ -1,13 +1,6 @@
-use native.Mathlib.Omega.{arith}
-use Rattle.basics.specs.Text.{bytes}
-use Rattle.text_numbers.proofs.Keys.{key_room, no_key, past_key}
+use Rattle.std.proofs.Common.{rules}
+use Rattle.text_numbers.proofs.Keys.{keyed_by}
 use Rattle.trace_words.proofs.read.word_at.Goals as goal
 
-pub overflow_add-at : goal.overflow_add-at
-overflow_add-at c = omega (arith, key_room (bytes " do=") c.args.s.now c.args.at c.starts_with.ensures c.if-starts_with.true)
-
-pub returns-then-starts_with : goal.returns-then-starts_with
-returns-then-starts_with c = past_key (bytes " do=") _ _ c.starts_with.ensures _ c.if-starts_with.true c.read_word.ensures
-
 pub returns : goal.returns
-returns c = no_key (bytes " do=") _ _ c.starts_with.ensures _ c.if-starts_with.false
+returns c = keyed_by _ _ _ _ c.keyed.ensures (λ p. search rules)

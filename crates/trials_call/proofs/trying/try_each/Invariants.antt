@@ -13,4 +13,4 @@ use Rattle.trials_call.proofs.trying.try_each.Given as goal
 abbrev pub invariant-loop-k : goal.invariant-loop-k
 invariant-loop-k l =
     (l.k ≤ l.m) × (length l.out ≡ length l.initial.out)
-    × ((delay : ℕ) (es : List Event) (rs : List Row) → Ready delay es rs l.n l.earlier l.masks l.plans l.priorities l.set l.codes l.end → l.out ≡ filled (λ j. order_byte delay es (tables_of rs) (order_at l.n l.orders j)) l.initial.out l.k)
+    × ((delay : ℕ) (es : List Event) (rs : List Row) → Ready delay es rs l.shared.count l.shared.earlier l.shared.steps l.shared.start l.end → l.out ≡ filled (λ j. order_byte delay es (tables_of rs) (order_at l.n l.orders j)) l.initial.out l.k)

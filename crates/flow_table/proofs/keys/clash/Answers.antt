@@ -1,4 +1,0 @@
-use Rattle.flow_table.proofs.keys.clash.Goals as goal
-
-pub returns : goal.returns
-returns c = cc

@@ -1,9 +1,0 @@
-use Rattle.share_call.proofs.ShareLaws.{call_refused, call_accepted}
-use borrow.Author.Rules.{rules}
-use Rattle.share_call.proofs.share.Goals as goal
-
-pub returns-in-Refused : goal.returns-in-Refused
-returns-in-Refused c = call_refused _ _ c.read_trace-read.result c.read_trace-read.ensures.answer _ c.in-Refused.is
-
-pub returns-in-Accepted : goal.returns-in-Accepted
-returns-in-Accepted c = call_accepted _ _ c.read_trace-read.result c.read_trace-read.ensures.answer _ c.in-Accepted.is c.share_in-x.ensures

@@ -5,10 +5,10 @@ use native.Mathlib.Decide.{dec_lt}
 use native.Mathlib.Omega.{arith}
 use mathlib.Core.Path.{◌≡◌, refl, sym, ap, subst, ◌∙◌}
 use mathlib.Core.Logic.{⊎_elim}
-use mathlib.Core.Bool.{false, not, ◌&&◌, ◌||◌}
-use lib.Dec.{eqb}
+use mathlib.Core.Bool.{false, not, ◌&&◌, ◌||◌, cond}
+use lib.Dec.{eqb, lit<}
 use lib.Pow.{pow-add, pow-lt, pow_mono, shl-shr, shr-shr}
-use lib.Bits.{bit_and, bit_or, and_shr, or_shr, and_step, or_step}
+use lib.Bits.{bit_and, bit_or, bit_xor, differ, and_shr, or_shr, xor_shr, and_step, or_step, xor_step}
 use borrow.Author.Tests.{eq-eqb, ne_eqb}
 use Rattle.bit_sets.specs.Inner.{word_bit}
 
@@ -34,6 +34,13 @@ and_digit x y =
     ap (λ (n : ℕ). eqb n 1) e
     ∙ by_digits (λ p q. eqb (min p q) 1 ≡ (eqb p 1 && eqb q 1)) refl refl refl refl (x % 2) (y % 2) (omega arith) (omega arith)
 
+xor_digit : (x y : ℕ) → eqb (bit_xor x y % 2) 1 ≡ cond (eqb (x % 2) 1) (not (eqb (y % 2) 1)) (eqb (y % 2) 1)
+xor_digit x y =
+    let l : differ (x % 2) (y % 2) < 2 = by_digits (λ p q. differ p q < 2) (lit< tt) (lit< tt) (lit< tt) (lit< tt) (x % 2) (y % 2) (omega arith) (omega arith) in
+    let e : bit_xor x y % 2 ≡ differ (x % 2) (y % 2) = omega (arith, xor_step x y) in
+    ap (λ (n : ℕ). eqb n 1) e
+    ∙ by_digits (λ p q. eqb (differ p q) 1 ≡ cond (eqb p 1) (not (eqb q 1)) (eqb q 1)) refl refl refl refl (x % 2) (y % 2) (omega arith) (omega arith)
+
 pub bit_or_lem : (x y k : ℕ) → word_bit (bit_or x y) k ≡ (word_bit x k || word_bit y k)
 unfolding word_bit
 bit_or_lem x y k = ap (λ (n : ℕ). eqb (n % 2) 1) (or_shr x y k) ∙ or_digit (x / 2 ^ k) (y / 2 ^ k)
@@ -41,6 +48,10 @@ bit_or_lem x y k = ap (λ (n : ℕ). eqb (n % 2) 1) (or_shr x y k) ∙ or_digit 
 pub bit_and_lem : (x y k : ℕ) → word_bit (bit_and x y) k ≡ (word_bit x k && word_bit y k)
 unfolding word_bit
 bit_and_lem x y k = ap (λ (n : ℕ). eqb (n % 2) 1) (and_shr x y k) ∙ and_digit (x / 2 ^ k) (y / 2 ^ k)
+
+pub bit_xor_lem : (x y k : ℕ) → word_bit (bit_xor x y) k ≡ cond (word_bit x k) (not (word_bit y k)) (word_bit y k)
+unfolding word_bit
+bit_xor_lem x y k = ap (λ (n : ℕ). eqb (n % 2) 1) (xor_shr x y k) ∙ xor_digit (x / 2 ^ k) (y / 2 ^ k)
 
 -- ---- a power of two
 -- 2 ^ (d + i) shifted down by i

@@ -4,15 +4,15 @@ use native.Mathlib.Decide.{ℕ_discrete, dec_lt}
 use native.Mathlib.Omega.{arith}
 use mathlib.Core.Path.{◌≡◌, refl, sym, ap, ap₂, ◌∙◌}
 use mathlib.Core.List.{List, []}
-use mathlib.Core.Bool.{Bool, false, not, ◌&&◌, ◌||◌, or_comm}
+use mathlib.Core.Bool.{Bool, true, false, not, ◌&&◌, ◌||◌, cond, or_comm}
 use lib.Dec.{eqb}
 use lib.ListN.{length, get_or, set, length-set, replicate, length-replicate, get_or-replicate, get_or-eq_default}
 use lib.Seq.{get_or-set_same, get_or-set_other}
 use lib.Pow.{shl_exact}
-use lib.Bits.{bit_and, bit_or}
+use lib.Bits.{bit_and, bit_or, bit_xor}
 use borrow.Author.Tests.{eq-eqb, ne_eqb}
 use Rattle.bit_sets.specs.Inner.{word_bit, member}
-use Rattle.bit_sets.proofs.BitLaws.{bit_and_lem, bit_or_lem, bit_not_lem, bit_pow, bit_zero}
+use Rattle.bit_sets.proofs.BitLaws.{bit_and_lem, bit_or_lem, bit_xor_lem, bit_not_lem, bit_pow, bit_zero}
 
 -- ---- a set whose words an operation makes of those of two sets, word for word
 pub record WordByWord (op : ℕ → ℕ → ℕ) (a b r : List ℕ) (n : ℕ) : Type 0 where
@@ -74,6 +74,19 @@ without_member a b r n l =
     each_word (λ (x y : ℕ). bit_and x (18446744073709551615 - y)) (λ p q. p && not q) refl b
     (λ x w k h. bit_and_lem x (18446744073709551615 - get_or b w 0) k ∙ ap (λ q. word_bit x k && q) (bit_not_lem 64 (get_or b w 0) k (l w) h))
     a r n
+
+pub xor_member : (a b r : List ℕ) (n : ℕ) → WordByWord bit_xor a b r n → (k : ℕ) → member r k ≡ cond (member a k) (not (member b k)) (member b k)
+xor_member a b = each_word bit_xor (λ p q. cond p (not q) q) refl b (λ x w k l. bit_xor_lem x (get_or b w 0) k) a
+
+-- a set less what it shares with another
+less : (p q : Bool) → cond p (not (p && q)) (p && q) ≡ (p && not q)
+less true q = refl
+less false q = refl
+
+pub without_shared : (a b s r : List ℕ) (n : ℕ) → ((k : ℕ) → member s k ≡ (member a k && member b k)) → WordByWord bit_xor a s r n
+    → (k : ℕ) → member r k ≡ (member a k && not (member b k))
+without_shared a b s r n h x k =
+    xor_member a s r n x k ∙ ap (λ (q : Bool). cond (member a k) (not q) q) (h k) ∙ less (member a k) (member b k)
 
 -- ---- one number more
 eqb_split : (j k : ℕ) → k / 64 ≡ j / 64 → eqb (k % 64) (j % 64) ≡ eqb k j

@@ -7,11 +7,11 @@ use lib.Dec.{eqb}
 use borrow.Author.Tests.{eqb-true, eq-eqb, ne_eqb}
 use Rattle.std.specs.Ordering.{nat_cmp, ordering_then}
 use Rattle.basics.proofs.Booleans.{both_ways}
-use Rattle.flow.specs.Types.{Exact, Match, Action, Key, Ordering}
+use Rattle.flow.specs.Types.{Exact, Prefix, Match, Action, Key, Ordering}
 use Rattle.flow.specs.Entries.{exact_rank, rank, match_order, same_key, same_action}
 use Rattle.flow.specs.Inner.{same_exact, same_prefix, same_match}
 use Rattle.std.specs.Ordering.{nat_cmp, ordering_then}
-use Rattle.flow.specs.Derived.{action_equal, exact_equal, exact_cmp, match_equal, match_cmp, key_equal}
+use Rattle.flow.specs.Derived.{action_equal, exact_equal, exact_cmp, prefix_equal, prefix_cmp, match_equal, match_cmp, key_equal}
 use Rattle.flow.proofs.Orders.{number_less, number_equal, number_greater, three}
 use Rattle.flow.proofs.SameKey.{same_key_lem}
 
@@ -38,7 +38,10 @@ exact_same Exact.Any (Exact.Is n) = sym (ne_eqb 0 (n + 1) (λ e. omega arith))
 exact_same (Exact.Is m) Exact.Any = sym (ne_eqb (m + 1) 0 (λ e. omega arith))
 exact_same (Exact.Is m) (Exact.Is n) = more_equal m n 1
 
-exact_order : (a b : Exact) → exact_cmp a b ≡ nat_cmp (exact_rank a) (exact_rank b)
+pub prefix_same : (p q : Prefix) → prefix_equal p q ≡ same_prefix p q
+prefix_same p q = refl
+
+pub exact_order : (a b : Exact) → exact_cmp a b ≡ nat_cmp (exact_rank a) (exact_rank b)
 exact_order Exact.Any Exact.Any = sym (number_equal {a = 0} {b = 0} refl)
 exact_order Exact.Any (Exact.Is n) = sym (number_less {a = 0} {b = n + 1} (omega arith))
 exact_order (Exact.Is m) Exact.Any = sym (number_greater {a = m + 1} {b = 0} (omega arith))
@@ -46,6 +49,10 @@ exact_order (Exact.Is m) (Exact.Is n) = three m n
     (λ h. number_less h ∙ sym (number_less {a = m + 1} {b = n + 1} (omega arith)))
     (λ h. number_equal h ∙ sym (number_equal {a = m + 1} {b = n + 1} (omega arith)))
     (λ h. number_greater h ∙ sym (number_greater {a = m + 1} {b = n + 1} (omega arith)))
+
+-- by value, then by length
+pub prefix_order : (p q : Prefix) → prefix_cmp p q ≡ ordering_then (nat_cmp p.value q.value) (nat_cmp p.length q.length)
+prefix_order p q = refl
 
 pub match_same : (m n : Match) → match_equal m n ≡ same_match m n
 unfolding same_match

@@ -13,3 +13,4 @@ pub use entry::{Entry, Key};
 pub use exact::Exact;
 pub use matching::{Match, Packet};
 pub use prefix::Prefix;
+pub use std::cmp::Ordering;

@@ -27,7 +27,7 @@ fn seen(answer: Answer, row: Row) -> Answer
 }
 
 // The answer after one more row.
-pub(crate) fn noted(answer: Answer, passes: bool, row: Row) -> Answer
+pub fn noted(answer: Answer, passes: bool, row: Row) -> Answer
     requires { counted answer < 512 }
     ensures { (result ≡ cond passes (seen answer row.entry) answer) × (counted result ≤ counted answer + 1) }
 {

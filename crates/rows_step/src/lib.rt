@@ -5,5 +5,6 @@ pub mod answers;
 pub mod one_pass;
 pub mod work;
 
+pub use answers::noted;
 pub use one_pass::{Passed, pass};
-pub use work::{Change, Work, work_of};
+pub use work::{Change, Work, next_free, work_of};

@@ -29,7 +29,7 @@ pub struct Work {
 
 impl Change {
     // The row is dropped.
-    pub(crate) fn drops(self, passes: bool) -> bool
+    pub fn drops(self, passes: bool) -> bool
         ensures { result ≡ is_dropped self passes }
     {
         match self {
@@ -39,7 +39,7 @@ impl Change {
     }
 
     // What the row becomes, where it is not dropped.
-    pub(crate) fn treated(self, passes: bool, row: Row) -> Row
+    pub fn treated(self, passes: bool, row: Row) -> Row
         ensures { result ≡ treated self passes row }
     {
         match self {
@@ -50,7 +50,7 @@ impl Change {
 }
 
 // The next free index: one more if a row was kept.
-pub(crate) fn next_free(k: usize, dropped: bool) -> usize
+pub fn next_free(k: usize, dropped: bool) -> usize
     requires { k < 512 }
     ensures { (result ≡ cond dropped k (k + 1)) × (result ≤ k + 1) }
 {

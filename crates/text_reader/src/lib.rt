@@ -6,10 +6,10 @@ ghost use Rattle.text_lines.specs.Lines.{lines};
 
 use text_lines::line_from;
 
-#[derive(Drop)]
+#[derive(Clone, Copy)]
 pub struct LineReader<'a> {
-    text: &'a [u8],
-    at: usize,
+    pub text: &'a [u8],
+    pub at: usize,
 }
 
 impl<'a> LineReader<'a> {

@@ -1,11 +1,15 @@
 -- Inner: what parts of the code answer.
-use Rattle.std.specs.Prelude.{List, ◌≡◌, ℕ, ◌≤◌, length, Ok, IfOk}
+use Rattle.std.specs.Prelude.{List, map, ◌≡◌, ℕ, ◌≤◌, length, Ok, IfOk}
 use Rattle.basics.specs.Searches.{lowest}
 use Rattle.refusals.specs.Checks.{Checked, ◌▹◌, refuse_at}
 use Rattle.trace_events.specs.Events.{events_of}
 use Rattle.trace_clocks.specs.Backward.{check_clocks}
-use Rattle.trace_text.specs.Types.{Refusal, Event, Trace}
+use Rattle.trace_text.specs.Types.{Refusal, Event, Tokens, Trace}
 use Rattle.trace_text.specs.TraceText.{twice, taken_early}
+
+-- what each line puts out
+abbrev pub all_outs : List Event → List Tokens
+all_outs es = map (λ e. e.head.outs) es
 
 -- 7, then 8, of events that are read
 unfoldable pub check_tokens : List Event → Checked (List Event)

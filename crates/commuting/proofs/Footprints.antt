@@ -4,16 +4,12 @@ use mathlib.Core.Path.{◌≡◌, refl, sym, ap, ap₂, ◌∙◌}
 use mathlib.Core.Bool.{◌&&◌, not}
 use lib.Dec.{eqb}
 use borrow.Author.Tests.{eq-eqb, eqb-true}
-use Rattle.std.specs.Prelude.{Option, None, Some}
-use Rattle.std.specs.Option.{option_eq}
 use Rattle.basics.proofs.Booleans.{both_ways}
-use Rattle.flow.specs.Derived.{action_equal}
-use Rattle.flow.proofs.Derived.{action_same}
-use Rattle.flow.specs.Entries.{same_key, same_action}
+use Rattle.flow.specs.Entries.{same_key}
 use Rattle.flow_bits.specs.Inner.{bits_of, bits_overlap, bits_same, exactly, Narrow}
 use Rattle.flow_bits.proofs.ByWords.{overlaps_bits, within_bits, same_bits, fits_exactly}
 use Rattle.flow.proofs.SameKey.{same_key_lem}
-use Rattle.commuting.specs.Types.{Match, Packet, Action, Key, Effect}
+use Rattle.commuting.specs.Types.{Match, Packet, Key, Effect}
 use Rattle.commuting.specs.Commuting.{pkt_write, commutes}
 use Rattle.commuting.specs.InnerFootprints.{footprint_of, NarrowEffect, same_key_by, same_action_by, footprints_commute}
 
@@ -27,13 +23,6 @@ keys_bits j k h g = ap₂ ◌&&◌ turned (same_bits j.pattern k.pattern h g) �
     turned = both_ways (eqb j.priority k.priority) (eqb k.priority j.priority)
         (λ e. eq-eqb k.priority j.priority (sym (eqb-true j.priority k.priority e)))
         (λ e. eq-eqb j.priority k.priority (sym (eqb-true k.priority j.priority e)))
-
--- the derived equality of actions, or of none
-pub same_choice : (x y : Option Action) → option_eq action_equal x y ≡ option_eq same_action x y
-same_choice None None = refl
-same_choice None (Some b) = refl
-same_choice (Some a) None = refl
-same_choice (Some a) (Some b) = action_same a b
 
 pub footprints_commute_lem : (v w : Effect) → NarrowEffect v → NarrowEffect w → footprints_commute (footprint_of v) (footprint_of w) ≡ commutes v w
 unfolding footprints_commute same_key_by same_action_by commutes

@@ -1,28 +1,27 @@
 -- Inner: what commuting asks of an effect, and the document's table by that. For effects whose fields have the bits of their places it
 -- is the table itself (proofs/Footprints.antt).
-use Rattle.std.specs.Prelude.{Bool, true, ◌&&◌, ◌||◌, not, eqb, Option, None, Some}
-use Rattle.std.specs.Option.{option_eq}
+use Rattle.std.specs.Prelude.{Bool, true, ◌&&◌, ◌||◌, not, eqb}
 use Rattle.flow.specs.Entries.{same_action}
 use Rattle.flow_bits.specs.Inner.{bits_of, bits_overlap, bits_within, bits_same, exactly, Narrow}
 use Rattle.commuting.specs.Types.{Action, Key, Effect, Word, EffectKind, Footprint}
 use Rattle.commuting.specs.Commuting.{at}
 
-abbrev pub printed : EffectKind → Key → Option Action → Footprint
+abbrev pub printed : EffectKind → Key → Action → Footprint
 printed kind k a = record { kind = kind; priority = k.priority; bits = bits_of k.pattern; action = a }
 
 abbrev no_word : Word
 no_word = record { value = 0; mask = 0 }
 
 abbrev pub no_footprint : Footprint
-no_footprint = record { kind = EffectKind.Idle; priority = 0; bits = record { first = no_word; second = no_word; third = no_word }; action = None }
+no_footprint = record { kind = EffectKind.Idle; priority = 0; bits = record { first = no_word; second = no_word; third = no_word }; action = Action.Drop }
 
 abbrev pub footprint_of : Effect → Footprint
-footprint_of (Effect.Pkt p) = printed EffectKind.Pkt (at 0 (exactly p)) None
-footprint_of (Effect.Add k a) = printed EffectKind.Add k (Some a)
-footprint_of (Effect.Addc k a) = printed EffectKind.Addc k (Some a)
-footprint_of (Effect.Modn k a) = printed EffectKind.Modn k (Some a)
-footprint_of (Effect.Dels k) = printed EffectKind.Dels k None
-footprint_of (Effect.Deln m) = printed EffectKind.Deln (at 0 m) None
+footprint_of (Effect.Pkt p) = printed EffectKind.Pkt (at 0 (exactly p)) Action.Drop
+footprint_of (Effect.Add k a) = printed EffectKind.Add k a
+footprint_of (Effect.Addc k a) = printed EffectKind.Addc k a
+footprint_of (Effect.Modn k a) = printed EffectKind.Modn k a
+footprint_of (Effect.Dels k) = printed EffectKind.Dels k Action.Drop
+footprint_of (Effect.Deln m) = printed EffectKind.Deln (at 0 m) Action.Drop
 footprint_of Effect.Idle = no_footprint
 
 -- each field has the bits of its place
@@ -40,7 +39,7 @@ unfoldable pub same_key_by : Footprint → Footprint → Bool
 same_key_by j k = eqb j.priority k.priority && bits_same j.bits k.bits
 
 unfoldable pub same_action_by : Footprint → Footprint → Bool
-same_action_by j k = option_eq same_action j.action k.action
+same_action_by j k = same_action j.action k.action
 
 abbrev pub apart_by : Footprint → Footprint → Bool
 apart_by j k = not (bits_overlap j.bits k.bits)

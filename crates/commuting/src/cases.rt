@@ -57,6 +57,9 @@ pub fn modify_modify(j: Footprint, k: Footprint) -> bool
     if !m.overlaps(n) {
         return true;
     }
+    if !j.same_action(k) {
+        return false;
+    }
     let apart = !m.within(n) && !n.within(m);
-    j.same_action(k) && (apart || j.same_key(k))
+    apart || j.same_key(k)
 }

@@ -1,6 +1,6 @@
 // What commuting asks of an effect, worked out once an event and not once a pair: its match as words of bits, a packet as the match
 // that it alone fits.
-ghost use Rattle.std.specs.Prelude.{◌≡◌, None};
+ghost use Rattle.std.specs.Prelude.{◌≡◌};
 ghost use Rattle.flow_bits.specs.Inner.{Narrow};
 ghost use Rattle.commuting.specs.InnerFootprints.{printed, no_footprint, footprint_of, NarrowEffect, same_key_by, same_action_by};
 ghost use Rattle.commuting.specs.Commuting.{at};
@@ -21,13 +21,13 @@ pub enum EffectKind {
     Deln,
 }
 
-// Priority 0 where the effect has none.
+// Priority 0 and the action `drop` where the effect has none.
 #[derive(Clone, Copy)]
 pub struct Footprint {
     pub kind: EffectKind,
     pub priority: u16,
     pub bits: Bits,
-    pub action: Option<Action>,
+    pub action: Action,
 }
 
 impl Footprint {
@@ -44,11 +44,11 @@ impl Footprint {
                 second: none,
                 third: none,
             },
-            action: None,
+            action: Action::Drop,
         }
     }
 
-    fn of_key(kind: EffectKind, key: Key, action: Option<Action>) -> Footprint
+    fn of_key(kind: EffectKind, key: Key, action: Action) -> Footprint
         ensures { (result ≡ printed kind key action) × Narrow key.pattern }
     {
         Footprint {
@@ -60,13 +60,13 @@ impl Footprint {
     }
 
     fn of_match(kind: EffectKind, pattern: Match) -> Footprint
-        ensures { (result ≡ printed kind (at 0 pattern) None) × Narrow pattern }
+        ensures { (result ≡ printed kind (at 0 pattern) Action.Drop) × Narrow pattern }
     {
         let key = Key {
             priority: 0,
             pattern,
         };
-        Footprint::of_key(kind, key, None)
+        Footprint::of_key(kind, key, Action::Drop)
     }
 
     pub fn of(effect: Effect) -> Footprint
@@ -74,10 +74,10 @@ impl Footprint {
     {
         match effect {
             Effect::Pkt(p) => Footprint::of_match(EffectKind::Pkt, exactly(p)),
-            Effect::Add(k, a) => Footprint::of_key(EffectKind::Add, k, Some(a)),
-            Effect::Addc(k, a) => Footprint::of_key(EffectKind::Addc, k, Some(a)),
-            Effect::Modn(k, a) => Footprint::of_key(EffectKind::Modn, k, Some(a)),
-            Effect::Dels(k) => Footprint::of_key(EffectKind::Dels, k, None),
+            Effect::Add(k, a) => Footprint::of_key(EffectKind::Add, k, a),
+            Effect::Addc(k, a) => Footprint::of_key(EffectKind::Addc, k, a),
+            Effect::Modn(k, a) => Footprint::of_key(EffectKind::Modn, k, a),
+            Effect::Dels(k) => Footprint::of_key(EffectKind::Dels, k, Action::Drop),
             Effect::Deln(m) => Footprint::of_match(EffectKind::Deln, m),
             Effect::Idle => Footprint::none(),
         }
@@ -91,7 +91,7 @@ impl Footprint {
         self.priority == other.priority && self.bits == other.bits
     }
 
-    #[tactic(auto, using(crate::proofs::Footprints::same_choice), unfolding(crate::specs::InnerFootprints::same_action_by))]
+    #[tactic(auto, using(flow::proofs::Derived::action_same), unfolding(crate::specs::InnerFootprints::same_action_by))]
     pub fn same_action(self, other: Footprint) -> bool
         ensures { result ≡ same_action_by self other }
     {

@@ -69,8 +69,7 @@ impl Bits {
         ensures { result ≡ bits_overlap self other }
     {
         self.first.overlaps(other.first)
-            && self.second.overlaps(other.second)
-            && self.third.overlaps(other.third)
+            & (self.second.overlaps(other.second) & self.third.overlaps(other.third))
     }
 
     #[tactic(auto, unfolding(crate::specs::Inner::bits_within))]
@@ -78,8 +77,7 @@ impl Bits {
         ensures { result ≡ bits_within self other }
     {
         self.first.within(other.first)
-            && self.second.within(other.second)
-            && self.third.within(other.third)
+            & (self.second.within(other.second) & self.third.within(other.third))
     }
 
     #[tactic(auto, unfolding(crate::specs::Inner::bits_of))]

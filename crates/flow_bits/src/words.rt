@@ -23,7 +23,8 @@ impl Word {
     pub fn within(self, other: Word) -> bool
         ensures { result ≡ word_within self other }
     {
-        self.mask & other.mask == other.mask && self.value & other.mask == other.value & other.mask
+        (self.mask & other.mask == other.mask)
+            & (self.value & other.mask == other.value & other.mask)
     }
 
     // The bits of this word above those of another, both of k bits.

@@ -14,7 +14,7 @@ use Rattle.std.proofs.Common.{Option}
 use Rattle.std.specs.Option.{MatchOption, unwrap_or}
 use Rattle.std.proofs.lemmas.List.Recursion.{is_count_by}
 use Rattle.std.proofs.lemmas.Iterator.{index_from_first}
-use lib.Seq.{drop-drop, take-nil, length-take-le}
+use lib.Seq.{drop-cons, drop-drop, take-nil, length-take-le}
 use Rattle.text_lines.specs.Lines.{lines, unlines, line_start}
 use Rattle.text_lines.specs.Inner.{line_length, first_line, newlines}
 use Rattle.text_lines.proofs.Lines.{lines_cons}
@@ -42,6 +42,21 @@ newlines_count = is_count_by newlines (λ b. eqb b 10) refl (λ b s. either (eqb
     either : (t : Bool) (n : ℕ) → cond t (n + 1) n ≡ cond t (1 + n) n
     either true n = omega arith
     either false n = refl
+
+-- the count of LF, with n of them before the place i
+module _ (s : List ℕ) (i n : ℕ) where
+  pub count_end : length s ≤ i → n + newlines (drop i s) ≡ n
+  unfolding newlines
+  count_end h = rw (drop_of_length-le s, add-zero)
+
+  module _ (h : i < length s) where
+    pub count_here : get_or s i 0 ≡ 10 → n + newlines (drop i s) ≡ n + 1 + newlines (drop (i + 1) s)
+    unfolding newlines
+    count_here e = rw (drop-cons s i 0, eq-eqb _ _ e, add-one i) (omega arith)
+
+    pub count_on : (get_or s i 0 ≡ 10 → ⊥) → n + newlines (drop i s) ≡ n + newlines (drop (i + 1) s)
+    unfolding newlines
+    count_on e = rw (drop-cons s i 0, ne_eqb _ _ e, add-one i)
 
 -- the first line lies within the text
 pub line_within : (s : List ℕ) → line_length s ≤ length s

@@ -22,7 +22,13 @@ pub fn line_length(s: &[u8]) -> usize
 pub fn count_lines(s: &[u8]) -> usize
     ensures { result ≡ newlines s.now }
 {
-    s.iter().filter(|b| **b == LF).count()
+    let mut n = 0;
+    for b in s {
+        if *b == LF {
+            n += 1;
+        }
+    }
+    n
 }
 
 // Whether the text is empty or its last byte is LF.

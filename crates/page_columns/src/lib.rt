@@ -5,8 +5,14 @@ ghost use Rattle.std.specs.Prelude.{◌≡◌, ◌+◌, ◌-◌, ◌≤◌, ◌<
 ghost use Rattle.text_numbers.specs.Print.{print_number};
 ghost use Rattle.text_numbers.specs.Inner.{Put};
 ghost use Rattle.page_columns.specs.Columns.{blanks, right, left};
+ghost use Rattle.page_columns.specs.Inner.{digit_or_blank};
 
 use text_numbers::{put_byte, put_bytes};
+
+static BLANKS: [u8; 60] = [b' '; 60];
+
+// The powers of ten of all columns but the last, of five.
+static POWERS: [usize; 4] = [10000, 1000, 100, 10];
 
 // So many blanks.
 pub fn put_blanks(out: &mut [u8], at: usize, n: usize) -> usize
@@ -14,7 +20,7 @@ pub fn put_blanks(out: &mut [u8], at: usize, n: usize) -> usize
     ensures put { Put (blanks n) at out.old result out.new }
     ensures value { result ≡ at + n }
 {
-    put_bytes(out, at, &[b' '; 60][..n])
+    put_bytes(out, at, &BLANKS[..n])
 }
 
 // A text, right-justified in so many columns.
@@ -37,6 +43,30 @@ pub fn put_left(out: &mut [u8], at: usize, width: usize, text: &[u8]) -> usize
     let rest = width.saturating_sub(text.len());
     let n = put_bytes(out, at, text);
     put_blanks(out, n, rest)
+}
+
+// The digit of a number at a power of ten; a blank where the number has none there.
+fn digit_or_blank(v: usize, power: usize) -> u8
+    requires { 1 ≤ power }
+    ensures { result ≡ digit_or_blank v power }
+{
+    if v < power {
+        return b' ';
+    }
+    b'0' + ((v / power) % 10) as u8
+}
+
+// A number that fits, right-justified in W columns, column by column.
+pub fn put_in<const W: usize>(out: &mut [u8], at: usize, v: usize) -> usize
+    requires { (at < 2 ^ 31) × (1 ≤ W) × (W ≤ 5) × (v < 10 ^ W) }
+    ensures put { Put (right W (print_number v)) at out.old result out.new }
+    ensures value { result ≡ at + W }
+{
+    for (i, power) in POWERS[5 - W..].iter().enumerate() {
+        put_byte(out, at + i, digit_or_blank(v, *power));
+    }
+    put_byte(out, at + (W - 1), b'0' + (v % 10) as u8);
+    at + W
 }
 
 // A number, right-justified in so many columns: the last digit, and before it those of the number without it, or blanks.

@@ -2,31 +2,35 @@
 ghost use Rattle.std.specs.Prelude.{[], ◌∷◌, ◌++◌, ◌≡◌, ◌+◌, ◌≤◌, ◌<◌, ◌^◌};
 ghost use Rattle.text_numbers.specs.Inner.{Put};
 ghost use Rattle.trace_words.specs.Words.{word_text};
-ghost use Rattle.page_columns.specs.Columns.{right};
+ghost use Rattle.page_columns.specs.Columns.{right, left};
 ghost use Rattle.page_lines.specs.PairLines.{priority_text, pair_text};
 ghost use Rattle.page_lines.specs.Inner.{LineInRange};
 
 use crate::line::PairLine;
 use flow_table::Origin;
-use page_columns::{put_left, put_number_right, put_right};
+use page_columns::{put_in, put_left, put_right};
 use text_numbers::{put_byte, put_bytes};
 use trace_words::{SwitchWord, Word, Write};
 
-fn word_text(w: Word) -> &'static [u8]
-    ensures { result.now ≡ word_text w }
+// A word, left-justified in five columns. Inlined: calls would take an eighth of a page's instructions.
+#[inline(always)]
+fn put_word(out: &mut [u8], at: usize, w: Word) -> usize
+    requires { at < 2 ^ 31 }
+    ensures put { Put (left 5 (word_text w)) at out.old result out.new }
+    ensures upper_bound { result ≤ at + 80 }
 {
     match w {
-        Word::Other => b"oth",
-        Word::On(SwitchWord::Barrier) => b"bar",
-        Word::On(SwitchWord::Message) => b"msg",
-        Word::On(SwitchWord::Packet(Origin::Received)) => b"pkt",
-        Word::On(SwitchWord::Packet(Origin::SentOut)) => b"pout",
-        Word::On(SwitchWord::Write(Write::Add)) => b"add",
-        Word::On(SwitchWord::Write(Write::AddChecked)) => b"addc",
-        Word::On(SwitchWord::Write(Write::ModifyStrict)) => b"mods",
-        Word::On(SwitchWord::Write(Write::Modify)) => b"modn",
-        Word::On(SwitchWord::DeleteStrict) => b"dels",
-        Word::On(SwitchWord::Delete) => b"deln",
+        Word::Other => put_left(out, at, 5, b"oth"),
+        Word::On(SwitchWord::Barrier) => put_left(out, at, 5, b"bar"),
+        Word::On(SwitchWord::Message) => put_left(out, at, 5, b"msg"),
+        Word::On(SwitchWord::Packet(Origin::Received)) => put_left(out, at, 5, b"pkt"),
+        Word::On(SwitchWord::Packet(Origin::SentOut)) => put_left(out, at, 5, b"pout"),
+        Word::On(SwitchWord::Write(Write::Add)) => put_left(out, at, 5, b"add"),
+        Word::On(SwitchWord::Write(Write::AddChecked)) => put_left(out, at, 5, b"addc"),
+        Word::On(SwitchWord::Write(Write::ModifyStrict)) => put_left(out, at, 5, b"mods"),
+        Word::On(SwitchWord::Write(Write::Modify)) => put_left(out, at, 5, b"modn"),
+        Word::On(SwitchWord::DeleteStrict) => put_left(out, at, 5, b"dels"),
+        Word::On(SwitchWord::Delete) => put_left(out, at, 5, b"deln"),
     }
 }
 
@@ -38,7 +42,7 @@ fn put_priority(out: &mut [u8], at: usize, p: Option<u16>) -> usize
 {
     match p {
         None => put_right(out, at, 5, b"-"),
-        Some(n) => put_number_right(out, at, 5, n as usize),
+        Some(n) => put_in::<5>(out, at, n as usize),
     }
 }
 
@@ -48,11 +52,11 @@ fn made_line(l: PairLine) -> [u8; 61]
     ensures { result ≡ pair_text l ++ (10 ∷ []) }
 {
     let mut line = [b' '; 61];
-    put_number_right(&mut line, 0, 3, l.lower.event as usize);
-    put_number_right(&mut line, 4, 3, l.higher.event as usize);
-    put_number_right(&mut line, 8, 2, l.switch as usize);
-    put_left(&mut line, 11, 5, word_text(l.lower.word));
-    put_left(&mut line, 16, 5, word_text(l.higher.word));
+    put_in::<3>(&mut line, 0, l.lower.event as usize);
+    put_in::<3>(&mut line, 4, l.higher.event as usize);
+    put_in::<2>(&mut line, 8, l.switch as usize);
+    put_word(&mut line, 11, l.lower.word);
+    put_word(&mut line, 16, l.higher.word);
     put_priority(&mut line, 21, l.lower.priority);
     put_priority(&mut line, 27, l.higher.priority);
     put_byte(&mut line, 60, b'\n');

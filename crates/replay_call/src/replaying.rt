@@ -64,7 +64,7 @@ pub fn replay(
     ensures tables_out_after { tables_out.new ≡ written (tables_to_write (replayed delay trace.now tables.now order.now (length tables_out.old) (length answers_out.old))) tables_out.old }
     ensures answers_out_after { answers_out.new ≡ written (answers_to_write (replayed delay trace.now tables.now order.now (length tables_out.old) (length answers_out.old))) answers_out.old }
 {
-    let inputs = read_both(trace, tables, delay)?;
+    let inputs = read_both(trace, tables, delay).accepted()?;
     replay_order(
         inputs.trace,
         inputs.rows,

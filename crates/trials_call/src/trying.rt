@@ -95,6 +95,6 @@ pub fn try_orders(
     ensures value { result ≡ trials_answer (tried delay trace.now tables.now orders.now (length out.old)) }
     ensures out_after { out.new ≡ written (tried delay trace.now tables.now orders.now (length out.old)) out.old }
 {
-    let inputs = read_both(trace, tables, delay)?;
+    let inputs = read_both(trace, tables, delay).accepted()?;
     try_on(inputs.trace, inputs.rows, orders, delay, out)
 }
